@@ -1,0 +1,4 @@
+pub mod Masks
+pub mod Spots
+pub mod Crowds
+pub mod Chains

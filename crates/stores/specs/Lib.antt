@@ -1,0 +1,4 @@
+pub mod Layout
+pub mod Flat
+pub mod Chain
+pub mod Laws
