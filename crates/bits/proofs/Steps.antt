@@ -18,7 +18,7 @@ use Rattle.bits.specs.Stores.{Content, Put, Tape, left, Parse, got, refused, R
 use Rattle.bits.proofs.Codes.{number-push}
 
 next : (i : ℕ) (xs : List Bool) (b : Bool) (ys : List Bool) → drop i xs ≡ b ∷ ys
-  → (i < length xs) × (drop (suc i) xs ≡ ys) × (take (suc i) xs ≡ take i xs ++ b ∷ [])
+    → (i < length xs) × (drop (suc i) xs ≡ ys) × (take (suc i) xs ≡ take i xs ++ b ∷ [])
 next zero [] b ys e = let z : _≡_ {A = ℕ} 0 1 = cc in absurd (omega arith)
 next zero (x ∷ xs) b ys e = (omega arith, (cc), (cc))
 next (suc i) [] b ys e = let z : _≡_ {A = ℕ} 0 1 = cc in absurd (omega arith)
@@ -26,7 +26,7 @@ next (suc i) (x ∷ xs) b ys e = let n = next i xs b ys e in (omega arith, n .1,
 
 -- the bit at i of bits that are read
 pub next-bit : (i : ℕ) (xs : List Bool) (b : Bool) (ys : List Bool) → drop i xs ≡ b ∷ ys
-  → (i + 1 ≤ length xs) × (ys ≡ drop (i + 1) xs) × (2 * number (take i xs) + number (b ∷ []) ≡ number (take (i + 1) xs))
+    → (i + 1 ≤ length xs) × (ys ≡ drop (i + 1) xs) × (2 * number (take i xs) + number (b ∷ []) ≡ number (take (i + 1) xs))
 next-bit i xs b ys e =
     let n = next i xs b ys e in
     rw add-one (omega arith, sym (n .1), sym (ap number (n .2) ∙ number-push (take i xs) b))
@@ -44,7 +44,7 @@ tape-is t bits position p q = ap (λ b. record { bits = b; position = t .positio
 
 -- where there is room, the bits are put
 pub put-done : {U : Type 0} (r : Result U StoreFault) (s t : Content) (more : List Bool) → Put s more r t → length (s .bits) + length more ≤ s .capacity
-  → t ≡ record { bits = s .bits ++ more; capacity = s .capacity }
+    → t ≡ record { bits = s .bits ++ more; capacity = s .capacity }
 put-done (Ok u) s t more p room = p .1
 put-done (Err e) s t more p room = absurd (omega (arith, p .0))
 
@@ -59,7 +59,7 @@ module _ {E A : Type 0} (x : Parse E A) (s t : Tape) where
 
 -- what a call that read has made of the bits
 pub read-ok : {E A : Type 0} (x : Parse E A) (s t : Tape) (a : A) → ReadAs x s (Ok a) t
-  → (x ≡ got a (left t)) × (t .bits ≡ s .bits) × (t .position + length (left t) ≡ length (s .bits))
+    → (x ≡ got a (left t)) × (t .bits ≡ s .bits) × (t .position + length (left t) ≡ length (s .bits))
 read-ok (got b rest) s t a h =
     let e : _≡_ {A = Result _ _} (Ok a) (Ok b) = h .0 in
     let l = h .2 in
@@ -86,11 +86,11 @@ field-refused w p xs h = rw (lt-ltb (length xs) w h)
 
 -- a field that was read, and one that was not there
 pub field-ok : (w p : ℕ) (xs : List Bool) (v : ℕ) (rest : List Bool) → oneField w p xs ≡ got v rest
-  → (w ≤ length xs) × (v ≡ number (take w xs) % 2 ^ 32) × (rest ≡ drop w xs)
+    → (w ≤ length xs) × (v ≡ number (take w xs) % 2 ^ 32) × (rest ≡ drop w xs)
 field-ok w p xs v rest e = go (ltb (length xs) w) refl e
   where
     go : (b : Bool) → ltb (length xs) w ≡ b → _≡_ {A = Parse StoreFault ℕ} (cond b (refused (End p)) (got (number (take w xs) % 2 ^ 32) (drop w xs))) (got v rest)
-      → (w ≤ length xs) × (v ≡ number (take w xs) % 2 ^ 32) × (rest ≡ drop w xs)
+        → (w ≤ length xs) × (v ≡ number (take w xs) % 2 ^ 32) × (rest ≡ drop w xs)
     go true l e = let z : _≡_ {A = ℕ} 0 1 = cc in absurd (omega arith)
     go false l e = (ltb-false (length xs) w l, (cc), (cc))
 
@@ -98,6 +98,6 @@ pub field-err : (w p : ℕ) (xs : List Bool) (f : StoreFault) → oneField w p x
 field-err w p xs f e = go (ltb (length xs) w) refl e
   where
     go : (b : Bool) → ltb (length xs) w ≡ b → _≡_ {A = Parse StoreFault ℕ} (cond b (refused (End p)) (got (number (take w xs) % 2 ^ 32) (drop w xs))) (refused f)
-      → (length xs < w) × (f ≡ End p)
+        → (length xs < w) × (f ≡ End p)
     go true l e = (ltb-true (length xs) w l, (cc))
     go false l e = let z : _≡_ {A = ℕ} 0 1 = cc in absurd (omega arith)

@@ -7,7 +7,7 @@ ghost use denote.Ref.{name, now as at};
 ghost use Rattle.bits.specs.Codes.{bit as bitOf, fixed};
 ghost use Rattle.bits.specs.Stores.{Content, Room, Put, Tape, left, ReadAs, Reads, oneBit, oneField, Back, returned};
 ghost use Rattle.std.specs.Results.{isOk};
-ghost use Rattle.bits.specs.Faults.{storeNumber, storeLayer, storePosition, storeAt};
+ghost use Rattle.bits.specs.Faults.{storeTold, storeAt};
 
 /// Why a sink or a source refuses a call. Each case tells the place, as a bit position.
 #[derive(Clone, Copy)]
@@ -29,33 +29,39 @@ pub enum Layer {
     Drawing,
 }
 
-impl StoreFault {
-    /// The layer: always the store's own.
-    pub fn layer(&self) -> Layer
-        ensures { λ r. ⌜ r ≡ storeLayer (now (self .entry)) ⌝ }
-    {
-        Layer::Store
-    }
-
+/// What a fault tells.
+#[derive(Clone, Copy)]
+pub struct Told {
     /// The refusal number.
-    pub fn number(&self) -> u8
-        ensures { λ r. ⌜ r ≡ storeNumber (now (self .entry)) ⌝ }
-    {
-        match self {
-            StoreFault::Full { .. } => 10,
-            StoreFault::End { .. } => 17,
-            StoreFault::Ahead { .. } => 27,
-        }
-    }
+    pub number: u8,
+    /// The layer in which it arose.
+    pub layer: Layer,
+    /// The place, as a bit position.
+    pub position: usize,
+}
 
-    /// The place.
-    pub fn position(&self) -> usize
-        ensures { λ r. ⌜ r ≡ storePosition (now (self .entry)) ⌝ }
+impl StoreFault {
+    /// Its number, its layer and its place.
+    pub fn told(&self) -> Told
+        ensures { λ r. ⌜ r ≡ storeTold (now (self .entry)) ⌝ }
     {
+        let layer = Layer::Store;
         match *self {
-            StoreFault::Full { position } => position,
-            StoreFault::End { position } => position,
-            StoreFault::Ahead { position } => position,
+            StoreFault::Full { position } => Told {
+                number: 10,
+                layer,
+                position,
+            },
+            StoreFault::End { position } => Told {
+                number: 17,
+                layer,
+                position,
+            },
+            StoreFault::Ahead { position } => Told {
+                number: 27,
+                layer,
+                position,
+            },
         }
     }
 

@@ -8,11 +8,11 @@ use native.Mathlib.Omega.{arith}
 use lib.IntN.{ℤ, pos, negsuc}
 use lib.ListN.{length, take, drop}
 use Rattle.bits.specs.Stores.{Tape, left, Parse, got, refused}
-use Rattle.numbers.specs.declared.faults.NumberFault.{NumberFault}
-use Rattle.numbers.specs.Lengths.{largest}
+use Rattle.lengths.specs.declared.faults.NumberFault.{NumberFault}
+use Rattle.lengths.specs.Lengths.{largest}
 use Rattle.numbers.specs.Naturals.{sumLimit, oneNatural}
 use Rattle.numbers.specs.Integers.{mapped, oneAbsolute}
-use Rattle.numbers.proofs.CodingLaws.{Taken, bit-cases}
+use Rattle.lengths.proofs.CodingLaws.{Taken, bit-cases}
 use Rattle.numbers.proofs.IntegerLaws.{way-above, way-below}
 
 -- the piece p and then the bit b were taken

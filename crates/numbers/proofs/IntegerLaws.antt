@@ -17,14 +17,15 @@ use Rattle.bits.specs.Codes.{fixed, number}
 use Rattle.bits.specs.Stores.{Parse, got, refused}
 use Rattle.bits.specs.declared.StoreFault.the-variants.{End}
 use Rattle.bits.proofs.Codes.{length-fixed, number-field, fixed-number}
-use Rattle.numbers.specs.declared.faults.NumberFault.{NumberFault}
-use Rattle.numbers.specs.declared.faults.NumberFault.the-variants.{Store, Range}
+use Rattle.lengths.specs.declared.faults.NumberFault.{NumberFault}
+use Rattle.lengths.specs.declared.faults.NumberFault.the-variants.{Store, Range}
 use Rattle.numbers.specs.declared.integers.Mode.{Mode}
 use Rattle.numbers.specs.declared.integers.Mode.the-variants.{Absolute, Relative}
-use Rattle.numbers.specs.Lengths.{largest}
+use Rattle.lengths.specs.Lengths.{largest}
 use Rattle.numbers.specs.Naturals.{ones, naturalCode, pieces, sumLimit}
 use Rattle.numbers.specs.Integers.{inRange, offset, absoluteCode, integerCode, mapped, afterOnes, oneAbsolute, ranged, oneInteger}
-use Rattle.numbers.proofs.Pieces.{number-ones, ones-from-largest, piece-lt}
+use Rattle.lengths.proofs.Parts.{piece-lt}
+use Rattle.numbers.proofs.Pieces.{number-ones, ones-from-largest}
 use Rattle.numbers.proofs.NaturalLaws.{back, only}
 
 -- a value that was read by way of another
@@ -42,7 +43,7 @@ ranged-got p (got w more) v rest e = go (inRange w) refl e
 
 module _ (m at cl : ℕ) where
   read-at : (xs ys : List Bool) → length xs ≡ cl
-    → oneAbsolute m cl at (xs ++ ys) ≡ cond (ltb (number xs) (largest cl)) (got (pos (number xs)) ys) (afterOnes m cl at ys)
+      → oneAbsolute m cl at (xs ++ ys) ≡ cond (ltb (number xs) (largest cl)) (got (pos (number xs)) ys) (afterOnes m cl at ys)
   read-at xs ys l =
       rw (le-ltb (length (xs ++ ys)) cl (omega (arith, length-append xs ys)), take-at xs ys cl l, drop-at xs ys cl l)
 
@@ -59,13 +60,13 @@ module _ (m at cl : ℕ) where
   absolute-back (pos n) rest one h =
       ⊎-elim
       (λ lt.
-        rw (lt-ltb n (largest cl) lt)
-          (read-at (fixed cl n) rest (length-fixed cl n) ∙ rw (number-field cl n (omega arith), lt-ltb n (largest cl) lt)))
+      rw (lt-ltb n (largest cl) lt)
+      (read-at (fixed cl n) rest (length-fixed cl n) ∙ rw (number-field cl n (omega arith), lt-ltb n (largest cl) lt)))
       (λ le.
-        rw (le-ltb n (largest cl) le)
-          (read-ones true (naturalCode cl (n - largest cl)) rest
-          ∙ ap (mapped (λ k. pos (k + largest cl))) (back m at cl (n - largest cl) rest one (omega arith))
-          ∙ ap (λ k. got (pos k) rest) (omega arith)))
+      rw (le-ltb n (largest cl) le)
+      (read-ones true (naturalCode cl (n - largest cl)) rest
+      ∙ ap (mapped (λ k. pos (k + largest cl))) (back m at cl (n - largest cl) rest one (omega arith))
+      ∙ ap (λ k. got (pos k) rest) (omega arith)))
       (cases-lt n (largest cl))
 
   after-exact : (v : ℤ) (ys rest : List Bool) → 1 ≤ cl → afterOnes m cl at ys ≡ got v rest → ones cl ++ ys ≡ absoluteCode cl v ++ rest
@@ -76,7 +77,7 @@ module _ (m at cl : ℕ) where
       let o = only m at cl (g .0) bs rest one (g .1) in
       let d : g .0 + largest cl - largest cl ≡ g .0 = omega arith in
       rw (g .2, le-ltb (g .0 + largest cl) (largest cl) (omega arith), d)
-        (ap (λ xs. ones cl ++ (true ∷ xs)) (o .0) ∙ sym (append-assoc (ones cl) (true ∷ naturalCode cl (g .0)) rest))
+      (ap (λ xs. ones cl ++ (true ∷ xs)) (o .0) ∙ sym (append-assoc (ones cl) (true ∷ naturalCode cl (g .0)) rest))
   after-exact v (false ∷ bs) rest one e =
       let g = mapped-got negsuc (pieces m cl at 0 0 bs) v rest e in
       let o = only m at cl (g .0) bs rest one (g .1) in
@@ -90,7 +91,7 @@ module _ (m at cl : ℕ) where
       p = number (take cl bits)
 
       go : (a b : Bool) → ltb (length bits) cl ≡ a → ltb p (largest cl) ≡ b
-        → cond a (refused (Store (End at))) (cond b (got (pos p) (drop cl bits)) (afterOnes m cl at (drop cl bits))) ≡ got v rest → bits ≡ absoluteCode cl v ++ rest
+          → cond a (refused (Store (End at))) (cond b (got (pos p) (drop cl bits)) (afterOnes m cl at (drop cl bits))) ≡ got v rest → bits ≡ absoluteCode cl v ++ rest
       go true b la lb e = let z : _≡_ {A = ℕ} 0 1 = cc in absurd (omega arith)
       go false true la lb e =
           let len : length (take cl bits) ≡ cl = length-take-le cl bits (ltb-false (length bits) cl la) in
@@ -124,7 +125,7 @@ back-and-there : (w o : ℤ) → (w -ℤ o) +ℤ o ≡ w
 back-and-there w o = omega (arith, ints)
 
 pub integer-back : (mode : Mode) (cl at : ℕ) (v : ℤ) (rest : List Bool) → 1 ≤ cl → cl ≤ 14 → inRange v ≡ true
-  → oneInteger mode cl at (integerCode mode cl v ++ rest) ≡ got v rest
+    → oneInteger mode cl at (integerCode mode cl v ++ rest) ≡ got v rest
 integer-back mode cl at v rest one few h =
     let o = offset mode cl in
     let s = offset-small mode cl few in
@@ -132,7 +133,7 @@ integer-back mode cl at v rest one few h =
     ∙ ap (λ w. cond (inRange w) (got w rest) (refused (Range at))) (there-and-back v o) ∙ ap (λ b. cond b (got v rest) (refused (Range at))) h
 
 pub integer-exact : (mode : Mode) (cl at : ℕ) (v : ℤ) (bits rest : List Bool) → 1 ≤ cl → oneInteger mode cl at bits ≡ got v rest
-  → (inRange v ≡ true) × (bits ≡ integerCode mode cl v ++ rest)
+    → (inRange v ≡ true) × (bits ≡ integerCode mode cl v ++ rest)
 integer-exact mode cl at v bits rest one e =
     let o = offset mode cl in
     let r = ranged-got at (mapped (λ w. w -ℤ o) (oneAbsolute sumLimit cl at bits)) v rest e in

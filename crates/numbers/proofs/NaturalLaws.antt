@@ -15,9 +15,9 @@ use Rattle.bits.specs.Codes.{fixed, number}
 use Rattle.bits.specs.Stores.{Parse, got, refused}
 use Rattle.bits.specs.declared.StoreFault.the-variants.{End}
 use Rattle.bits.proofs.Codes.{number-lt, length-fixed, number-field, fixed-number}
-use Rattle.numbers.specs.declared.faults.NumberFault.{NumberFault}
-use Rattle.numbers.specs.declared.faults.NumberFault.the-variants.{Store, Range}
-use Rattle.numbers.specs.Lengths.{largest}
+use Rattle.lengths.specs.declared.faults.NumberFault.{NumberFault}
+use Rattle.lengths.specs.declared.faults.NumberFault.the-variants.{Store, Range}
+use Rattle.lengths.specs.Lengths.{largest}
 use Rattle.numbers.specs.Naturals.{ones, times, naturalCode, decided, judged, pieces}
 use Rattle.numbers.proofs.Pieces.{largest-pos, number-ones, ones-from-largest}
 
@@ -105,13 +105,23 @@ module _ (m at : ℕ) where
       let whole = take-append-drop cl bits in
       ⊎-elim
       (λ w.
-        let r = only-from fuel k (sum + largest cl) v ys rest (omega (arith, length-drop cl bits)) (w .1) in
-        (suc (r .0), r .1, r .2, omega (arith, suc-mul (r .0) (largest cl)), r .4,
-          sym whole ∙ ap (λ zs. zs ++ ys) (ones-from-largest cl xs len (w .0)) ∙ ap (λ zs. ones cl ++ zs) (r .5)
-          ∙ sym (append-assoc (ones cl) (times (r .0) (ones cl)) (fixed cl (r .1) ++ rest))))
-      (λ d.
-        (0, number xs, omega arith, omega arith, omega arith,
-          sym whole ∙ ap (λ zs. zs ++ ys) (sym (fixed-number xs) ∙ ap (λ n. fixed n (number xs)) len) ∙ ap (λ zs. fixed cl (number xs) ++ zs) (sym (d .2))))
+      let r = only-from fuel k (sum + largest cl) v ys rest (omega (arith, length-drop cl bits)) (w .1) in (
+        suc (r .0),
+        r .1,
+        r .2,
+        omega (arith, suc-mul (r .0) (largest cl)),
+        r .4,
+        sym whole ∙ ap (λ zs. zs ++ ys) (ones-from-largest cl xs len (w .0)) ∙ ap (λ zs. ones cl ++ zs) (r .5)
+            ∙ sym (append-assoc (ones cl) (times (r .0) (ones cl)) (fixed cl (r .1) ++ rest)),
+      ))
+      (λ d. (
+        0,
+        number xs,
+        omega arith,
+        omega arith,
+        omega arith,
+        sym whole ∙ ap (λ zs. zs ++ ys) (sym (fixed-number xs) ∙ ap (λ n. fixed n (number xs)) len) ∙ ap (λ zs. fixed cl (number xs) ++ zs) (sym (d .2)),
+      ))
       (j .2)
 
   pub only : (cl r : ℕ) (bits rest : List Bool) → 1 ≤ cl → pieces m cl at 0 0 bits ≡ got r rest → (bits ≡ naturalCode cl r ++ rest) × (r ≤ m)
@@ -150,4 +160,3 @@ module _ (m at : ℕ) where
       let e : v ≡ largest (suc k) = omega (arith, rw (length-take-le (suc k) bits h) at (number-lt (take (suc k) bits))) in
       read-step k sum bits
       ∙ rw (le-ltb (length bits) (suc k) h, le-ltb m (sum + v) b, eq-eqb v (largest (suc k)) e) (ap (λ n. pieces m (suc k) at (sum + n) 0 (drop (suc k) bits)) (sym e))
-

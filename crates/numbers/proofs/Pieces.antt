@@ -6,12 +6,11 @@ use mathlib.Core.Path.{_≡_, refl, sym, ap, _∙_}
 use native.Mathlib.Nat.{pow-suc, suc-mul, div-add-mod', mod-lt, div-eq-of-lt, mod-eq-of-lt}
 use native.Mathlib.Omega.{arith}
 use lib.Arith.{digits-div, digits-mod}
-use lib.ListN.{length, replicate, length-replicate, take, length-take}
-use lib.Pow.{pow-mono}
+use lib.ListN.{length, length-replicate}
 use Rattle.std.proofs.shelf.Bits.{pow-pos}
 use Rattle.bits.specs.Codes.{fixed, number}
-use Rattle.bits.proofs.Codes.{number-lt, fixed-number}
-use Rattle.numbers.specs.Lengths.{largest}
+use Rattle.bits.proofs.Codes.{fixed-number}
+use Rattle.lengths.specs.Lengths.{largest}
 use Rattle.numbers.specs.Naturals.{ones, times, naturalCode}
 
 pub largest-pos : (cl : ℕ) → 1 ≤ cl → 0 < largest cl
@@ -31,18 +30,6 @@ ones-from-largest k bs l v =
 pub fixed-largest : (k : ℕ) → fixed k (largest k) ≡ ones k
 fixed-largest k =
     ap (λ j. fixed j (largest k)) (sym (length-replicate k true)) ∙ ap (fixed (length (ones k))) (sym (number-ones k)) ∙ fixed-number (ones k)
-
--- a piece is below 2 ^ cl, so the low 32 bits are all of it
-pub piece-lt : (cl : ℕ) (bits : List Bool) → number (take cl bits) < 2 ^ cl
-piece-lt cl bits =
-    let m : length (take cl bits) ≤ cl = simp length-take (omega arith) in
-    omega (arith, number-lt (take cl bits), pow-mono m)
-
-pub piece-whole : (cl : ℕ) (bits : List Bool) → cl ≤ 14 → (number (take cl bits) % 2 ^ 32 ≡ number (take cl bits)) × (number (take cl bits) < 16384)
-piece-whole cl bits h =
-    let m : 2 ^ cl ≤ 2 ^ 14 = pow-mono h in
-    let l = piece-lt cl bits in
-    (mod-eq-of-lt (omega arith), omega arith)
 
 -- from the largest piece on, a code begins with a piece of ones
 pub code-more : (cl r : ℕ) → 0 < largest cl → largest cl ≤ r → naturalCode cl r ≡ fixed cl (largest cl) ++ naturalCode cl (r - largest cl)

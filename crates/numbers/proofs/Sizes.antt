@@ -9,7 +9,7 @@ use lib.ListN.{length, length-append, length-replicate}
 use Rattle.std.proofs.shelf.Bits.{pow-pos}
 use Rattle.bits.specs.Codes.{fixed}
 use Rattle.bits.proofs.Codes.{length-fixed}
-use Rattle.numbers.specs.Lengths.{largest}
+use Rattle.lengths.specs.Lengths.{largest}
 use Rattle.numbers.proofs.Pieces.{fixed-largest}
 use mir.Val.{boolByte}
 use Rattle.numbers.specs.Naturals.{ones, times, naturalCode}
@@ -50,8 +50,8 @@ length-rest held rest before all e =
 
 -- the three parts of an escaped code, put one after the other
 pub escaped-parts : (cl r n : ℕ) (above : Bool) (held : List Bool) {one two three : List Bool} → n ≡ largest cl
-  → one ≡ held ++ fixed cl n → two ≡ one ++ fixed 1 (boolByte above) → three ≡ two ++ naturalCode cl r
-  → three ≡ held ++ (ones cl ++ (above ∷ naturalCode cl r))
+    → one ≡ held ++ fixed cl n → two ≡ one ++ fixed 1 (boolByte above) → three ≡ two ++ naturalCode cl r
+    → three ≡ held ++ (ones cl ++ (above ∷ naturalCode cl r))
 escaped-parts cl r n above held is a b c =
     c ∙ ap (λ xs. xs ++ naturalCode cl r) (b ∙ ap (λ xs. xs ++ fixed 1 (boolByte above)) (a ∙ ap (λ k. held ++ fixed cl k) is ∙ ap (λ xs. held ++ xs) (fixed-largest cl)))
     ∙ append-assoc (held ++ ones cl) (fixed 1 (boolByte above)) (naturalCode cl r) ∙ append-assoc held (ones cl) (fixed 1 (boolByte above) ++ naturalCode cl r)

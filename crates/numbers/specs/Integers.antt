@@ -10,11 +10,11 @@ use lib.ListN.{length, take, drop}
 use Rattle.bits.specs.Codes.{fixed, number}
 use Rattle.bits.specs.Stores.{Parse, got, refused}
 use Rattle.bits.specs.declared.StoreFault.the-variants.{End}
-use Rattle.numbers.specs.declared.faults.NumberFault.{NumberFault}
-use Rattle.numbers.specs.declared.faults.NumberFault.the-variants.{Store, Range}
+use Rattle.lengths.specs.declared.faults.NumberFault.{NumberFault}
+use Rattle.lengths.specs.declared.faults.NumberFault.the-variants.{Store, Range}
 use Rattle.numbers.specs.declared.integers.Mode.{Mode}
 use Rattle.numbers.specs.declared.integers.Mode.the-variants.{Absolute, Relative}
-use Rattle.numbers.specs.Lengths.{largest}
+use Rattle.lengths.specs.Lengths.{largest}
 use Rattle.numbers.specs.Naturals.{ones, naturalCode, pieces, sumLimit}
 
 -- a value lies from -valueLimit to valueLimit - 1

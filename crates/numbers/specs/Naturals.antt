@@ -8,9 +8,9 @@ use lib.ListN.{length, replicate, take, drop}
 use Rattle.bits.specs.Codes.{fixed, number}
 use Rattle.bits.specs.Stores.{Parse, got, refused}
 use Rattle.bits.specs.declared.StoreFault.the-variants.{End}
-use Rattle.numbers.specs.declared.faults.NumberFault.{NumberFault}
-use Rattle.numbers.specs.declared.faults.NumberFault.the-variants.{Store, Range}
-use Rattle.numbers.specs.Lengths.{largest}
+use Rattle.lengths.specs.declared.faults.NumberFault.{NumberFault}
+use Rattle.lengths.specs.declared.faults.NumberFault.the-variants.{Store, Range}
+use Rattle.lengths.specs.Lengths.{largest}
 
 -- the largest sum of a number's pieces
 abbrev pub sumLimit : ℕ

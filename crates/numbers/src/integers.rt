@@ -1,9 +1,4 @@
 //! Integers in absolute and in relative mode.
-use crate::faults::NumberFault;
-use crate::faults::NumberFromStore;
-use crate::faults::WriteFault;
-use crate::faults::WriteFromStore;
-use crate::lengths::CodeLength;
 use crate::naturals::append_natural;
 use crate::naturals::natural_length;
 use crate::naturals::take_pieces;
@@ -12,6 +7,11 @@ use bits::Source;
 use bits::append;
 use bits::or_back;
 use bits::take_part;
+use lengths::CodeLength;
+use lengths::faults::NumberFault;
+use lengths::faults::NumberFromStore;
+use lengths::faults::WriteFault;
+use lengths::faults::WriteFromStore;
 ghost use Prim.Native.Nat.{ℕ, _+_, _≤_};
 ghost use mathlib.Core.Bool.{true};
 ghost use mathlib.Core.List.{_++_};
@@ -20,7 +20,7 @@ ghost use lib.IntN.{pos, negsuc};
 ghost use lib.ListN.{length};
 ghost use lib.Signed.{_≤ℤ_};
 ghost use Rattle.bits.specs.Stores.{left, Reads};
-ghost use Rattle.numbers.specs.Coding.{Wrote, Faithful, PartAs};
+ghost use Rattle.lengths.specs.Coding.{Wrote, Faithful, PartAs};
 ghost use Rattle.numbers.specs.Integers.{inRange, offset as offsetOf, integerCode, oneAbsolute, oneInteger};
 ghost use Rattle.numbers.specs.Naturals.{sumLimit};
 ghost use Rattle.numbers.specs.Shapes.{shapeCode};
@@ -86,7 +86,9 @@ pub fn integer_length(mode: Mode, code_length: CodeLength, value: i32) -> usize
 {
     match shape_of(mode, code_length, value) {
         Shape::Single(_) => code_length.bits as usize,
-        Shape::Escaped(_, rest) => code_length.bits as usize + 1 + natural_length(code_length, rest),
+        Shape::Escaped(_, rest) => code_length.bits as usize
+            + 1
+            + natural_length(code_length, rest),
     }
 }
 

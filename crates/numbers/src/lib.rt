@@ -1,6 +1,3 @@
-//! Numbers as bits: code lengths, natural numbers in pieces, integers in absolute and in relative mode, and the length field.
-pub mod faults;
-pub mod fields;
+//! Numbers as bits: natural numbers in pieces, and integers in absolute and in relative mode.
 pub mod integers;
-pub mod lengths;
 pub mod naturals;

@@ -1,21 +1,21 @@
 //! Natural numbers in pieces.
-use crate::faults::NumberFault;
-use crate::faults::NumberFromStore;
-use crate::faults::WriteFault;
-use crate::faults::WriteFromStore;
-use crate::lengths::CodeLength;
 use bits::Sink;
 use bits::Source;
 use bits::append;
 use bits::or_back;
 use bits::take_part;
+use lengths::CodeLength;
+use lengths::faults::NumberFault;
+use lengths::faults::NumberFromStore;
+use lengths::faults::WriteFault;
+use lengths::faults::WriteFromStore;
 ghost use Prim.Native.Nat.{ℕ, _+_, _*_, _≤_};
 ghost use mathlib.Core.List.{_++_};
 ghost use mathlib.Core.Path.{_≡_};
 ghost use lib.Dec.{leb};
 ghost use lib.ListN.{length};
 ghost use Rattle.bits.specs.Stores.{left, Reads};
-ghost use Rattle.numbers.specs.Coding.{Wrote, Faithful, PartAs};
+ghost use Rattle.lengths.specs.Coding.{Wrote, Faithful, PartAs};
 ghost use Rattle.numbers.specs.Naturals.{naturalCode, oneNatural, sumLimit};
 ghost use Rattle.std.specs.Vec.{made};
 use bits::LentSink;
@@ -92,10 +92,7 @@ pub fn take_pieces<S: Source>(
 
 /// Reads a number. A source that ends within it is refused with 17 and a sum of pieces over `SUM_LIMIT` with 22, both told at its first bit;
 /// then the source is as before.
-pub fn read_natural<S: Source>(
-    source: &mut S,
-    code_length: CodeLength,
-) -> Result<u32, NumberFault>
+pub fn read_natural<S: Source>(source: &mut S, code_length: CodeLength) -> Result<u32, NumberFault>
     ensures reads { λ r. ⌜ Reads (oneNatural («code_length» .bits)) (tape (now (source .entry))) r (tape (now (source .exit))) ⌝ }
     ensures faithful { λ r. ⌜ Faithful (naturalCode («code_length» .bits)) (λ n. n ≤ sumLimit) (tape (now (source .entry))) r (tape (now (source .exit))) ⌝ }
 {

@@ -19,9 +19,11 @@ loop-k-again g c =
     let s = g .Self·Sink in
     let i = c .loop-k .inv in
     let p = c .in-Continue-put .ensures tt in
-    let b = ap (λ t. t .bits) (p .put .1) ∙ ap (λ b. s .content (c .loop-k .self) .bits ++ (b ∷ [])) (c .has-bit .ensures) in
-    (s .joined _ _ _ (i .0) (p .kept), ap (λ t. t .capacity) (p .put .1) ∙ i .1,
-      fixed-more (s .content (c .loop-k .self) .bits) (c .loop-k .k) (c .args .value) (c .loop-k-test .taken) b (i .2))
+    let b = ap (λ t. t .bits) (p .put .1) ∙ ap (λ b. s .content (c .loop-k .self) .bits ++ (b ∷ [])) (c .has-bit .ensures) in (
+      s .joined _ _ _ (i .0) (p .kept),
+      ap (λ t. t .capacity) (p .put .1) ∙ i .1,
+      fixed-more (s .content (c .loop-k .self) .bits) (c .loop-k .k) (c .args .value) (c .loop-k-test .taken) b (i .2),
+    )
 
 pub returns-in-Break-put : need.returns-in-Break-put
 returns-in-Break-put g c =

@@ -55,8 +55,10 @@ returns-in-Escaped g c =
     let b = c .append-in-Escaped-2 .ensures in
     let d = c .append-natural .ensures in
     let held = s .content (c .args .sink .now) .bits in
-    record { kept = s .joined _ _ _ (a .kept) (s .joined _ _ _ (b .kept) (d .kept))
-           ; capacity = d .capacity ∙ b .capacity ∙ a .capacity
-           ; bits = escaped-parts cl (c .in-Escaped .rest) (c .largest .result) (c .in-Escaped .above) held (c .largest .ensures .value) (a .bits)
-               (b .bits ∙ ap (λ n. s .content (c .append-in-Escaped .last .sink) .bits ++ fixed 1 n) (c .from .ensures)) (d .bits)
-               ∙ ap (λ xs. held ++ xs) e }
+    record {
+      kept = s .joined _ _ _ (a .kept) (s .joined _ _ _ (b .kept) (d .kept));
+      capacity = d .capacity ∙ b .capacity ∙ a .capacity;
+      bits = escaped-parts cl (c .in-Escaped .rest) (c .largest .result) (c .in-Escaped .above) held (c .largest .ensures .value) (a .bits)
+          (b .bits ∙ ap (λ n. s .content (c .append-in-Escaped .last .sink) .bits ++ fixed 1 n) (c .from .ensures)) (d .bits)
+          ∙ ap (λ xs. held ++ xs) e;
+    }

@@ -4,7 +4,7 @@ use native.Mathlib.Omega.{arith}
 use lib.IntN.{pos, negsuc, natAbs, _+ℤ_}
 use Rattle.std.proofs.shelf.Signed.{ints}
 use Rattle.numbers.specs.Integers.{offset}
-use Rattle.numbers.specs.Lengths.{largest}
+use Rattle.lengths.specs.Lengths.{largest}
 use Rattle.numbers.proofs.IntegerLaws.{shape-single, shape-above, shape-below}
 use Rattle.numbers.proofs.integers.shape_of.Needs as need
 

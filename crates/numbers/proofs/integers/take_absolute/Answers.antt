@@ -8,10 +8,10 @@ use Rattle.std.proofs.shelf.Results.{err-from-errBy}
 use Rattle.std.proofs.shelf.Signed.{ints}
 use Rattle.std.specs.declared.result.Result.the-variants.{Ok, Err}
 use Rattle.bits.specs.Stores.{left}
-use Rattle.numbers.specs.Lengths.{largest}
+use Rattle.lengths.specs.Lengths.{largest}
 use Rattle.numbers.specs.Naturals.{oneNatural, sumLimit}
 use Rattle.numbers.specs.Integers.{mapped}
-use Rattle.numbers.proofs.CodingLaws.{took, part-got, part-refused, part-ok, part-err}
+use Rattle.lengths.proofs.CodingLaws.{took, part-got, part-refused, part-ok, part-err}
 use Rattle.numbers.proofs.Escapes.{above, below, neither}
 use Rattle.numbers.proofs.IntegerLaws.{way-single}
 use Rattle.numbers.proofs.integers.take_absolute.Needs as need
@@ -46,7 +46,7 @@ returns-in-Break-rest g c =
     let q = err-from-errBy (c .from-residual-in-Break-rest .result) (c .from-residual-in-Break-rest .ensures .1) in
     let e = neither cl field s t u p b k l high _ (m .0) in
     rw (q .1, q .2)
-      (record { part = part-refused _ _ _ _ e refl (m .1 ∙ l .same ∙ k .same) (omega (arith, k .moved, l .moved, m .2)); small = tt })
+    (record { part = part-refused _ _ _ _ e refl (m .1 ∙ l .same ∙ k .same) (omega (arith, k .moved, l .moved, m .2)); small = tt })
 
 pub returns-then-above-eq1 : need.returns-then-above-eq1
 returns-then-above-eq1 g c =
@@ -68,8 +68,10 @@ returns-then-above-eq1 g c =
     let small = c .in-Continue-rest .ensures tt .small in
     let bounds = c .largest-largest .ensures .bounds in
     let e = above cl field s t u p b k l high (c .if-above-eq1 .taken) ∙ ap (mapped (λ n. pos (n + largest cl))) (m .0) in
-    record { part = part-got _ _ _ _ _ e (ap Ok (omega (arith, ints))) (m .1 ∙ l .same ∙ k .same) refl (omega (arith, k .moved, l .moved, m .2))
-           ; small = (omega (arith, ints), omega (arith, ints)) }
+    record {
+      part = part-got _ _ _ _ _ e (ap Ok (omega (arith, ints))) (m .1 ∙ l .same ∙ k .same) refl (omega (arith, k .moved, l .moved, m .2));
+      small = (omega (arith, ints), omega (arith, ints));
+    }
 
 pub returns-else-above-eq1 : need.returns-else-above-eq1
 returns-else-above-eq1 g c =
@@ -90,5 +92,7 @@ returns-else-above-eq1 g c =
     let m = part-ok (oneNatural cl field (left u)) u v n (c .in-Continue-rest .ensures tt .part) in
     let small = c .in-Continue-rest .ensures tt .small in
     let e = below cl field s t u p b k l high (c .if-above-eq1 .left) ∙ ap (mapped negsuc) (m .0) in
-    record { part = part-got _ _ _ _ _ e (ap Ok (omega (arith, ints))) (m .1 ∙ l .same ∙ k .same) refl (omega (arith, k .moved, l .moved, m .2))
-           ; small = (omega (arith, ints), omega (arith, ints)) }
+    record {
+      part = part-got _ _ _ _ _ e (ap Ok (omega (arith, ints))) (m .1 ∙ l .same ∙ k .same) refl (omega (arith, k .moved, l .moved, m .2));
+      small = (omega (arith, ints), omega (arith, ints));
+    }

@@ -7,7 +7,7 @@ use Rattle.std.proofs.shelf.Signed.{ints}
 use Rattle.bits.specs.Stores.{left}
 use Rattle.numbers.specs.Integers.{oneAbsolute}
 use Rattle.numbers.specs.Naturals.{sumLimit}
-use Rattle.numbers.proofs.CodingLaws.{part-got, part-refused, part-ok}
+use Rattle.lengths.proofs.CodingLaws.{part-got, part-refused, part-ok}
 use Rattle.numbers.proofs.IntegerLaws.{value-in, value-out}
 use Rattle.numbers.proofs.integers.take_integer.Needs as need
 

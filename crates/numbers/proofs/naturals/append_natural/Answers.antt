@@ -4,7 +4,7 @@ use mathlib.Core.Path.{_≡_, sym, ap, _∙_}
 use native.Mathlib.Omega.{arith}
 use lib.ListN.{length}
 use Rattle.bits.specs.Codes.{fixed}
-use Rattle.numbers.specs.Lengths.{largest}
+use Rattle.lengths.specs.Lengths.{largest}
 use Rattle.numbers.specs.Naturals.{naturalCode}
 use Rattle.numbers.proofs.Pieces.{largest-pos, code-more, code-last}
 use Rattle.numbers.proofs.Sizes.{natural-long, length-rest}
@@ -37,11 +37,13 @@ loop-left-again g c =
     let a = c .append .ensures in
     let is = c .largest-largest .ensures .value in
     let held = s .content (c .loop-left .sink) .bits in
-    let le : t ≤ c .loop-left .left = omega arith in
-    (s .joined _ _ _ (i .0) (a .kept), a .capacity ∙ i .1,
+    let le : t ≤ c .loop-left .left = omega arith in (
+      s .joined _ _ _ (i .0) (a .kept),
+      a .capacity ∙ i .1,
       rw (a .bits, is)
-        (append-assoc held (fixed cl t) (naturalCode cl (c .loop-left .left - t))
-        ∙ ap (λ xs. held ++ xs) (sym (code-more cl (c .loop-left .left) (largest-pos cl (c .args .code-length .lawful .0)) le)) ∙ i .2))
+          (append-assoc held (fixed cl t) (naturalCode cl (c .loop-left .left - t))
+          ∙ ap (λ xs. held ++ xs) (sym (code-more cl (c .loop-left .left) (largest-pos cl (c .args .code-length .lawful .0)) le)) ∙ i .2),
+    )
 
 pub returns : need.returns
 returns g c =
@@ -51,5 +53,8 @@ returns g c =
     let a = c .append-2 .ensures in
     let is = c .largest-largest .ensures .value in
     let lt : c .loop-left .left < largest cl = omega arith in
-    record { kept = s .joined _ _ _ (i .0) (a .kept); capacity = a .capacity ∙ i .1
-           ; bits = a .bits ∙ ap (λ xs. s .content (c .loop-left .sink) .bits ++ xs) (sym (code-last cl (c .loop-left .left) lt)) ∙ i .2 }
+    record {
+      kept = s .joined _ _ _ (i .0) (a .kept);
+      capacity = a .capacity ∙ i .1;
+      bits = a .bits ∙ ap (λ xs. s .content (c .loop-left .sink) .bits ++ xs) (sym (code-last cl (c .loop-left .left) lt)) ∙ i .2;
+    }

@@ -6,9 +6,9 @@ use Rattle.std.specs.declared.result.Result.the-variants.{Ok, Err}
 use Rattle.std.proofs.shelf.Results.{err-from-errBy}
 use Rattle.bits.specs.Codes.{number}
 use Rattle.bits.specs.Stores.{left}
-use Rattle.numbers.specs.declared.faults.NumberFault.the-variants.{Store}
+use Rattle.lengths.specs.declared.faults.NumberFault.the-variants.{Store}
 use Rattle.numbers.specs.Naturals.{sumLimit}
-use Rattle.numbers.proofs.CodingLaws.{took, missed, part-got, part-refused}
+use Rattle.lengths.proofs.CodingLaws.{took, missed, part-got, part-refused}
 use Rattle.numbers.proofs.NaturalLaws.{step-short, step-big, step-more, step-done}
 use Rattle.numbers.proofs.naturals.take_pieces.Needs as need
 
@@ -22,7 +22,7 @@ returns-in-Break-piece g c =
     let i = c .loop-piece .inv in
     let e = i .3 ∙ step-short sumLimit (c .args .field) cl (c .loop-piece .sum) (left t) (c .args .code-length .lawful .0) (m .0) in
     rw (p .1, p .2, m .1)
-      (record { part = part-refused _ _ _ _ e refl (ap (λ z. z .bits) (m .2) ∙ i .1) (let q = ap (λ z. z .position) (m .2) in omega (arith, i .2)); small = tt })
+    (record { part = part-refused _ _ _ _ e refl (ap (λ z. z .bits) (m .2) ∙ i .1) (let q = ap (λ z. z .position) (m .2) in omega (arith, i .2)); small = tt })
 
 pub add-sum : need.add-sum
 add-sum g c =

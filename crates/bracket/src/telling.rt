@@ -1,0 +1,134 @@
+//! What took place, in words.
+use crate::corners::CORNERS;
+use crate::corners::Corner;
+use crate::corners::Reading;
+use crate::corners::length_in;
+use crate::corners::read_one;
+use bits::Layer;
+use bits::Source;
+use bits::Told;
+use lengths::Defaults;
+use lengths::faults::NumberFault;
+use numbers::integers::Mode;
+use std::io;
+
+/// The question that a refusal number answers with no.
+fn question(number: u8) -> &'static str {
+    match number {
+        1 => "is the absolute default length 1 to 14?",
+        2 => "is the relative default length 1 to 14?",
+        5 => "is the size of the store allowed?",
+        6 => "is each index before the closing zero inside, and no block met twice?",
+        7 => "do the held bits fit?",
+        10 => "is there room?",
+        15 => "is the value in range?",
+        17 => "is there another bit?",
+        21 => "is the sent length 1 to 14?",
+        22 => "is the number in range?",
+        27 => "is the place at or before the position?",
+        _ => "a question of another layer",
+    }
+}
+
+fn layer_name(layer: Layer) -> &'static str {
+    match layer {
+        Layer::Store => "store",
+        Layer::Number => "number",
+        Layer::List => "list",
+        Layer::Drawing => "drawing",
+    }
+}
+
+/// Tells a refusal that has no place.
+pub fn tell_refusal(rt: &LibcRuntime, number: u8) -> io::Result<()> {
+    let asked = question(number);
+    println!(rt, "    refused with {number}: {asked} No.")
+}
+
+/// Tells a refusal with its layer and its place.
+pub fn tell_fault(rt: &LibcRuntime, told: Told) -> io::Result<()> {
+    let number = told.number;
+    let asked = question(number);
+    let layer = layer_name(told.layer);
+    let position = told.position;
+    println!(
+        rt,
+        "    refused with {number}: {asked} No. (layer {layer}, bit {position})"
+    )
+}
+
+/// Prints the next `count` bits, and a dot for each that is not there.
+pub fn print_bits<S: Source>(rt: &LibcRuntime, source: &mut S, count: usize) -> io::Result<()> {
+    for _k in 0..count {
+        match source.take() {
+            Ok(true) => print!(rt, "1")?,
+            Ok(false) => print!(rt, "0")?,
+            Err(_) => print!(rt, ".")?,
+        }
+    }
+    Ok(())
+}
+
+/// Tells a coordinate that was read: the value, its bits and how many they are.
+fn tell_reading<S: Source>(
+    rt: &LibcRuntime,
+    source: &mut S,
+    axis: &str,
+    reading: Reading,
+) -> io::Result<()> {
+    let value = reading.value;
+    let count = reading.to.saturating_sub(reading.from);
+    print!(rt, "  {axis} {value:>4} = ")?;
+    let _ = source.go_back(reading.from);
+    print_bits(rt, source, count)?;
+    print!(rt, " ({count} bits)")
+}
+
+/// Reads one corner and tells it.
+fn tell_corner<S: Source>(
+    rt: &LibcRuntime,
+    source: &mut S,
+    defaults: &Defaults,
+    corner: Corner,
+) -> io::Result<()> {
+    let code_length = length_in(defaults, corner.mode);
+    match corner.mode {
+        Mode::Absolute => print!(rt, "    absolute")?,
+        Mode::Relative => print!(rt, "    relative")?,
+    }
+    match read_one(source, corner.mode, code_length) {
+        Ok(x) => tell_reading(rt, source, "x", x)?,
+        Err(fault) => return tell_fault(rt, fault.told()),
+    }
+    match read_one(source, corner.mode, code_length) {
+        Ok(y) => tell_reading(rt, source, "y", y)?,
+        Err(fault) => return tell_fault(rt, fault.told()),
+    }
+    println!(rt, "")
+}
+
+/// Reads every corner and tells it.
+pub fn tell_corners<S: Source>(
+    rt: &LibcRuntime,
+    source: &mut S,
+    defaults: &Defaults,
+) -> io::Result<()> {
+    for corner in CORNERS {
+        tell_corner(rt, source, defaults, corner)?;
+    }
+    Ok(())
+}
+
+/// How many coordinates are read as they were written.
+pub fn count_same<S: Source>(source: &mut S, defaults: &Defaults) -> Result<usize, NumberFault> {
+    let mut same = 0usize;
+    for corner in CORNERS {
+        let code_length = length_in(defaults, corner.mode);
+        let x = read_one(source, corner.mode, code_length)?;
+        let y = read_one(source, corner.mode, code_length)?;
+        if x.value == corner.x && y.value == corner.y {
+            same = same.saturating_add(2);
+        }
+    }
+    Ok(same)
+}

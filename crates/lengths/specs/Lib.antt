@@ -1,0 +1,4 @@
+pub mod Lengths
+pub mod Fields
+pub mod Faults
+pub mod Coding
