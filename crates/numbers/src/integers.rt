@@ -86,9 +86,10 @@ pub fn integer_length(mode: Mode, code_length: CodeLength, value: i32) -> usize
 {
     match shape_of(mode, code_length, value) {
         Shape::Single(_) => code_length.bits as usize,
-        Shape::Escaped(_, rest) => code_length.bits as usize
-            + 1
-            + natural_length(code_length, rest),
+        Shape::Escaped(_, rest) => {
+            let escape = code_length.bits as usize + 1;
+            escape + natural_length(code_length, rest)
+        }
     }
 }
 
