@@ -2,14 +2,9 @@
 use Prim.Native.Nat.{ℕ}
 use mathlib.Core.Bool.{Bool}
 use mathlib.Core.List.{List, [], _∷_, _++_}
-use Rattle.numbers.specs.declared.integers.Mode.{Mode}
-use Rattle.numbers.specs.declared.integers.Mode.the-variants.{Absolute, Relative}
-use Rattle.numbers.specs.Integers.{integerCode}
+use Rattle.lengths.specs.Lengths.{lengthIn}
+use Rattle.integers.specs.Integers.{integerCode}
 use Rattle.bracket.specs.declared.corners.Corner.{Corner}
-
-abbrev pub lengthIn : ℕ → ℕ → Mode → ℕ
-lengthIn absolute relative Absolute = absolute
-lengthIn absolute relative Relative = relative
 
 abbrev pub cornerBits : ℕ → ℕ → Corner → List Bool
 cornerBits absolute relative c =

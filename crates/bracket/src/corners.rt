@@ -1,16 +1,16 @@
 //! The corners of the bracket, written and read.
 use bits::Sink;
 use bits::Source;
+use integers::read_integer;
+use integers::write_integer;
 use lengths::CodeLength;
 use lengths::Defaults;
+use lengths::Mode;
 use lengths::faults::NumberFault;
 use lengths::faults::WriteFault;
-use numbers::integers::Mode;
-use numbers::integers::read_integer;
-use numbers::integers::write_integer;
 ghost use mathlib.Core.List.{_++_};
 ghost use mathlib.Core.Path.{_≡_};
-ghost use Rattle.bracket.specs.Outline.{lengthIn, cornerBits, cornersBits};
+ghost use Rattle.bracket.specs.Outline.{cornerBits, cornersBits};
 ghost use Rattle.std.specs.Vec.{made};
 
 /// A corner by its two coordinates: from the origin, or from the corner before.
@@ -95,16 +95,6 @@ pub const CORNERS: [Corner; 14] = [
     },
 ];
 
-/// The default length of a mode.
-pub fn length_in(defaults: &Defaults, mode: Mode) -> CodeLength
-    ensures { λ r. ⌜ r .bits ≡ lengthIn (now (defaults .entry) .absolute .bits) (now (defaults .entry) .relative .bits) mode ⌝ }
-{
-    match mode {
-        Mode::Absolute => defaults.absolute,
-        Mode::Relative => defaults.relative,
-    }
-}
-
 /// Writes both coordinates of a corner.
 fn write_corner<S: Sink>(
     sink: &mut S,
@@ -114,7 +104,7 @@ fn write_corner<S: Sink>(
     ensures kept { λ _. ⌜ kept (now (sink .entry)) (now (sink .exit)) ⌝ }
     ensures bits { λ r. ⌜ made r (λ _. content (now (sink .exit)) .bits ≡ content (now (sink .entry)) .bits ++ cornerBits (now (defaults .entry) .absolute .bits) (now (defaults .entry) .relative .bits) corner) ⌝ }
 {
-    let code_length = length_in(defaults, corner.mode);
+    let code_length = defaults.of(corner.mode);
     write_integer(sink, corner.mode, code_length, corner.x)?;
     write_integer(sink, corner.mode, code_length, corner.y)?;
     Ok(())

@@ -1,19 +1,19 @@
 //! Carries the corners of a wall bracket as bits into a flat run and into a chain, and back, and tells every step.
 use bits::Sink;
 use bits::Source;
+use chain::ChainSink;
+use chain::ChainSinkSink;
+use chain::ChainSource;
+use chain::ChainSourceSource;
 use corners::CORNERS;
 use corners::write_corners;
+use flat::FlatSink;
+use flat::FlatSinkSink;
+use flat::FlatSource;
+use flat::FlatSourceSource;
 use lengths::Defaults;
 use lengths::faults::WriteFault;
 use std::io;
-use stores::chain::ChainSink;
-use stores::chain::ChainSinkSink;
-use stores::chain::ChainSource;
-use stores::chain::ChainSourceSource;
-use stores::flat::FlatSink;
-use stores::flat::FlatSinkSink;
-use stores::flat::FlatSource;
-use stores::flat::FlatSourceSource;
 use telling::count_same;
 use telling::print_bits;
 use telling::tell_corners;

@@ -3,19 +3,18 @@ use crate::telling::tell_fault;
 use crate::telling::tell_refusal;
 use bits::Sink;
 use bits::Source;
+use flat::FlatSink;
+use flat::FlatSinkSink;
+use flat::FlatSource;
+use flat::FlatSourceSource;
+use integers::read_integer;
+use integers::write_integer;
 use lengths::CodeLength;
 use lengths::Defaults;
+use lengths::Mode;
 use lengths::faults::WriteFault;
 use lengths::fields::LengthField;
-use numbers::integers::Mode;
-use numbers::integers::read_integer;
-use numbers::integers::write_integer;
 use std::io;
-use stores::chain;
-use stores::flat::FlatSink;
-use stores::flat::FlatSinkSink;
-use stores::flat::FlatSource;
-use stores::flat::FlatSourceSource;
 
 /// A sink of sixteen bits takes two values of seven bits and not a third one.
 pub fn full_sink(rt: &LibcRuntime, code_length: CodeLength) -> io::Result<()> {

@@ -2,14 +2,13 @@
 use crate::corners::CORNERS;
 use crate::corners::Corner;
 use crate::corners::Reading;
-use crate::corners::length_in;
 use crate::corners::read_one;
 use bits::Layer;
 use bits::Source;
 use bits::Told;
 use lengths::Defaults;
+use lengths::Mode;
 use lengths::faults::NumberFault;
-use numbers::integers::Mode;
 use std::io;
 
 /// The question that a refusal number answers with no.
@@ -91,7 +90,7 @@ fn tell_corner<S: Source>(
     defaults: &Defaults,
     corner: Corner,
 ) -> io::Result<()> {
-    let code_length = length_in(defaults, corner.mode);
+    let code_length = defaults.of(corner.mode);
     match corner.mode {
         Mode::Absolute => print!(rt, "    absolute")?,
         Mode::Relative => print!(rt, "    relative")?,
@@ -123,7 +122,7 @@ pub fn tell_corners<S: Source>(
 pub fn count_same<S: Source>(source: &mut S, defaults: &Defaults) -> Result<usize, NumberFault> {
     let mut same = 0usize;
     for corner in CORNERS {
-        let code_length = length_in(defaults, corner.mode);
+        let code_length = defaults.of(corner.mode);
         let x = read_one(source, corner.mode, code_length)?;
         let y = read_one(source, corner.mode, code_length)?;
         if x.value == corner.x && y.value == corner.y {

@@ -17,7 +17,7 @@ use Rattle.bits.proofs.Steps.{read-ok, read-err, field-ok, field-err}
 use Rattle.lengths.proofs.Parts.{piece-whole}
 use Rattle.lengths.specs.Coding.{Faithful, PartAs}
 
--- a call that reads by a parse keeps faith with a code, if the parse does
+-- a call that reads by a parse is faithful to a code, if the parse is
 pub faithful : {E A : Type 0} (parse : ℕ → List Bool → Parse E A) (code : A → List Bool) (Lawful : A → Type 0)
     → ((at : ℕ) (v : A) (rest : List Bool) → Lawful v → parse at (code v ++ rest) ≡ got v rest)
     → ((at : ℕ) (v : A) (bits rest : List Bool) → parse at bits ≡ got v rest → Lawful v × (bits ≡ code v ++ rest))

@@ -20,7 +20,7 @@ Wrote lawful code s (Err Value) t = (lawful ≡ false) × (t ≡ s)
 Wrote lawful code s (Err (Store e)) t =
     (lawful ≡ true) × (s .capacity < length (s .bits) + length code) × (e ≡ Full (length (s .bits))) × (t ≡ s)
 
--- A call that reads keeps faith with a code: the bits of a lawful value, with any bits after them, give that value and leave exactly the bits
+-- A call that reads is faithful to a code: the bits of a lawful value, with any bits after them, give that value and leave exactly the bits
 -- after; what is accepted is lawful, and the bits taken are exactly its code; so no lawful value's bits begin another's.
 pub record Faithful {E A : Type 0} (code : A → List Bool) (Lawful : A → Type 0) (s : Tape) (r : Result A E) (t : Tape) : Type 0 where
   pub back : (v : A) (rest : List Bool) → Lawful v → left s ≡ code v ++ rest → (r ≡ Ok v) × (left t ≡ rest)

@@ -4,6 +4,8 @@ use crate::faults::NumberFault;
 use crate::faults::NumberFromStore;
 use crate::faults::WriteFault;
 use crate::faults::WriteFromStore;
+use bits::LentSink;
+use bits::LentSource;
 use bits::Sink;
 use bits::Source;
 use bits::append;
@@ -19,8 +21,6 @@ ghost use Rattle.bits.specs.Stores.{left, Reads};
 ghost use Rattle.lengths.specs.Coding.{Wrote, Faithful, PartAs};
 ghost use Rattle.lengths.specs.Fields.{sentBy, sentIn, chosen as chosenOf, fieldCode, oneLengthField};
 ghost use Rattle.std.specs.Options.{Cases as BySome};
-use bits::LentSink;
-use bits::LentSource;
 
 /// What a length field says.
 #[derive(Clone, Copy)]

@@ -3,7 +3,7 @@ ghost use Prim.Native.Nat.{ℕ, _≤_};
 ghost use mathlib.Core.Path.{_≡_};
 ghost use mathlib.Core.Bool.{true, false};
 ghost use Rattle.lengths.specs.Faults.{defaultsNumber};
-ghost use Rattle.lengths.specs.Lengths.{isLength, largest as largestPiece, Refuses};
+ghost use Rattle.lengths.specs.Lengths.{isLength, largest as largestPiece, lengthIn, Refuses};
 ghost use Rattle.std.specs.Options.{Cases as BySome};
 ghost use Rattle.std.specs.Results.{Cases};
 
@@ -62,6 +62,13 @@ impl DefaultsFault {
     }
 }
 
+/// How values count: from the origin, or from the point before.
+#[derive(Clone, Copy)]
+pub enum Mode {
+    Absolute,
+    Relative,
+}
+
 /// The default lengths of the two modes.
 #[derive(Clone, Copy)]
 pub struct Defaults {
@@ -81,5 +88,15 @@ impl Defaults {
             return Err(DefaultsFault::Relative);
         };
         Ok(Defaults { absolute, relative })
+    }
+
+    /// The default length of a mode.
+    pub fn of(&self, mode: Mode) -> CodeLength
+        ensures { λ r. ⌜ r .bits ≡ lengthIn (now (self .entry) .absolute .bits) (now (self .entry) .relative .bits) mode ⌝ }
+    {
+        match mode {
+            Mode::Absolute => self.absolute,
+            Mode::Relative => self.relative,
+        }
     }
 }

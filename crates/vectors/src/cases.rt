@@ -1,5 +1,5 @@
 //! The examples. Where the specification's own text breaks the rule beside it, the rule decides: docs/FORMAT.md says which those are.
-use numbers::integers::Mode;
+use lengths::Mode;
 
 /// A number with its kind.
 #[derive(Clone, Copy)]

@@ -1,18 +1,18 @@
 //! Compares the bits of numbers with the examples of the format, one line each: what is given, what is expected, what came.
 use bits::Sink;
 use bits::Source;
+use flat::FlatSink;
+use flat::FlatSinkSink;
+use flat::FlatSource;
+use flat::FlatSourceSource;
+use integers::write_integer;
 use lengths::CodeLength;
+use lengths::Mode;
 use lengths::faults::WriteFault;
 use lengths::faults::WriteFromStore;
 use lengths::fields::LengthField;
-use numbers::integers::Mode;
-use numbers::integers::write_integer;
-use numbers::naturals::write_natural;
+use naturals::write_natural;
 use std::io;
-use stores::flat::FlatSink;
-use stores::flat::FlatSinkSink;
-use stores::flat::FlatSource;
-use stores::flat::FlatSourceSource;
 
 mod cases;
 

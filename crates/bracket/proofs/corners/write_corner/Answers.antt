@@ -5,7 +5,7 @@ use mir.Syntax.{w32}
 use mir.Val.{SFits}
 use Rattle.std.proofs.shelf.Results.{err-from-errBy}
 use Rattle.std.proofs.shelf.Signed.{toZ-ofZ}
-use Rattle.numbers.specs.Integers.{integerCode}
+use Rattle.integers.specs.Integers.{integerCode}
 use Rattle.bracket.proofs.Outlines.{both}
 use Rattle.bracket.proofs.corners.write_corner.Needs as need
 
@@ -25,7 +25,7 @@ returns g c =
     let b = c .in-Continue-write-integer-2 .ensures tt in
     let x = simp toZ-ofZ at (ap (λ t. t .bits) (a .wrote .3)) in
     let y = simp toZ-ofZ at (ap (λ t. t .bits) (b .wrote .3)) in
-    let l = c .length-in-code-length .ensures in
+    let l = c .of-code-length .ensures in
     let z = both (s .content (c .args .sink .now) .bits) (s .content (c .write-integer .last .sink) .bits) (s .content (c .write-integer-2 .last .sink) .bits) _ _ x y in
     record {
       kept = s .joined _ _ _ (a .kept) (b .kept);

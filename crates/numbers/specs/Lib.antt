@@ -1,3 +1,0 @@
-pub mod Naturals
-pub mod Integers
-pub mod Shapes

@@ -1,4 +1,0 @@
-pub mod Masks
-pub mod Spots
-pub mod Crowds
-pub mod Chains

@@ -1,8 +1,0 @@
-use mathlib.Core.Path.{sym, ap, _∙_}
-use Rattle.stores.specs.Chain.{link}
-use Rattle.stores.proofs.Chains.{met-more}
-use Rattle.stores.proofs.chain.block_at.Needs as need
-
-pub loop-k-again : need.loop-k-again
-loop-k-again c =
-    c .link-block .ensures ∙ ap (link (c .args .bytes .now)) (c .loop-k .inv) ∙ sym (met-more (c .args .bytes .now) (c .args .first) (c .loop-k .k))

@@ -1,6 +1,0 @@
-use native.Mathlib.Omega.{arith}
-use Rattle.stores.proofs.Spots.{length-stored}
-use Rattle.stores.proofs.flat.FlatSinkSink.held.Needs as need
-
-pub returns : need.returns
-returns c = let s = c .args .self .now in omega (arith, length-stored (λ i. i) (s .bytes .now) (s .held))

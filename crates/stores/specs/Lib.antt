@@ -1,4 +1,0 @@
-pub mod Layout
-pub mod Flat
-pub mod Chain
-pub mod Laws
