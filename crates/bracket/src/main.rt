@@ -11,11 +11,19 @@ use flat::FlatSink;
 use flat::FlatSinkSink;
 use flat::FlatSource;
 use flat::FlatSourceSource;
+use lengths::CodeLength;
 use lengths::Defaults;
 use lengths::faults::WriteFault;
+use refusals::ended_source;
+use refusals::full_sink;
+use refusals::wrong_chain;
+use refusals::wrong_defaults;
+use refusals::wrong_length;
 use std::io;
 use telling::count_same;
 use telling::print_bits;
+use telling::tell_answer;
+use telling::tell_attempt;
 use telling::tell_corners;
 use telling::tell_fault;
 use telling::tell_refusal;
@@ -71,14 +79,13 @@ fn flat_run(rt: &LibcRuntime, bytes: &mut [u8; 40], defaults: &Defaults) -> io::
     Ok(held)
 }
 
-/// The chain: written and read back. Answers how many bits are held.
-fn chain_run(rt: &LibcRuntime, bytes: &mut [u8; 160], defaults: &Defaults) -> io::Result<usize> {
+/// The chain: written and read back.
+fn chain_run(rt: &LibcRuntime, bytes: &mut [u8; 160], defaults: &Defaults) -> io::Result<()> {
     println!(rt, "Into a chain in 160 bytes, block 3, then 1, then 4:")?;
     lay(bytes);
     let mut sink = ChainSink::over(bytes, FIRST, 0);
     let held = write_all(rt, &mut sink, defaults)?;
-    read_all(rt, &mut ChainSource::over(bytes, FIRST, held), defaults)?;
-    Ok(held)
+    read_all(rt, &mut ChainSource::over(bytes, FIRST, held), defaults)
 }
 
 /// Whether two sources have the same bits from their positions on, `count` of them.
@@ -96,29 +103,54 @@ fn same_bits<A: Source, B: Source>(a: &mut A, b: &mut B, count: usize) -> bool {
     true
 }
 
+/// Tells whether both stores hold the same bits, and prints them.
+fn tell_stores(rt: &LibcRuntime, flat: &[u8], blocks: &[u8], held: usize) -> io::Result<()> {
+    let mut linked = ChainSource::over(blocks, FIRST, held);
+    if same_bits(&mut FlatSource::over(flat, held), &mut linked, held) {
+        println!(rt, "Both stores hold the same {held} bits:")?;
+    } else {
+        println!(rt, "THE STORES DIFFER.")?;
+    }
+    print_bits(rt, &mut FlatSource::over(flat, held), held)?;
+    println!(rt, "")
+}
+
+/// Tells one refusal of each kind.
+fn tell_refusals(rt: &LibcRuntime, code_length: CodeLength) -> io::Result<()> {
+    println!(rt, "What is refused alters nothing:")?;
+    tell_attempt(
+        rt,
+        "A third value of 7 bits into a flat run of 2 bytes",
+        "bits held",
+        full_sink(code_length),
+    )?;
+    tell_attempt(
+        rt,
+        "A value from the bits 000 111111111, of which the first three are read already",
+        "position",
+        ended_source(code_length),
+    )?;
+    tell_attempt(
+        rt,
+        "A length field from the bits 1 1111",
+        "position",
+        wrong_length(),
+    )?;
+    tell_answer(rt, "Default lengths 7 and 15", wrong_defaults())?;
+    tell_answer(
+        rt,
+        "A chain whose block 1 names block 1 as the next",
+        wrong_chain(),
+    )
+}
+
 fn run(rt: &LibcRuntime, defaults: &Defaults) -> io::Result<()> {
     let mut flat = [0u8; 40];
     let mut blocks = [0u8; 160];
     let held = flat_run(rt, &mut flat, defaults)?;
-    let linked = chain_run(rt, &mut blocks, defaults)?;
-    if held == linked
-        && same_bits(
-            &mut FlatSource::over(&flat, held),
-            &mut ChainSource::over(&blocks, FIRST, linked),
-            held,
-        )
-    {
-        println!(rt, "Both stores hold the same {held} bits:")?;
-    } else {
-        println!(rt, "The stores differ.")?;
-    }
-    print_bits(rt, &mut FlatSource::over(&flat, held), held)?;
-    println!(rt, "")?;
-    println!(rt, "What is refused alters nothing:")?;
-    refusals::full_sink(rt, defaults.absolute)?;
-    refusals::ended_source(rt, defaults.absolute)?;
-    refusals::wrong_length(rt)?;
-    refusals::wrong_chain(rt)
+    chain_run(rt, &mut blocks, defaults)?;
+    tell_stores(rt, &flat, &blocks, held)?;
+    tell_refusals(rt, defaults.absolute)
 }
 
 fn main(rt: LibcRuntime) -> io::Result<()> {

@@ -1,8 +1,7 @@
-//! One refusal of each kind, and that it altered nothing.
-use crate::telling::tell_fault;
-use crate::telling::tell_refusal;
+//! One refusal of each kind, and what it left as it was.
 use bits::Sink;
 use bits::Source;
+use bits::Told;
 use flat::FlatSink;
 use flat::FlatSinkSink;
 use flat::FlatSource;
@@ -14,70 +13,83 @@ use lengths::Defaults;
 use lengths::Mode;
 use lengths::faults::WriteFault;
 use lengths::fields::LengthField;
-use std::io;
 
-/// A sink of sixteen bits takes two values of seven bits and not a third one.
-pub fn full_sink(rt: &LibcRuntime, code_length: CodeLength) -> io::Result<()> {
-    println!(rt, "  A third value of 7 bits into a flat run of 2 bytes:")?;
+/// A call that should be refused: what it told, and a count before and after it.
+#[derive(Clone, Copy)]
+pub struct Attempt {
+    pub told: Option<Told>,
+    pub before: usize,
+    pub after: usize,
+}
+
+/// A third value of seven bits into a flat run of sixteen; the counts are those of the bits held.
+pub fn full_sink(code_length: CodeLength) -> Attempt {
     let mut bytes = [0u8; 2];
     let mut sink = FlatSink::over(&mut bytes, 0);
     let _ = write_integer(&mut sink, Mode::Absolute, code_length, 64);
     let _ = write_integer(&mut sink, Mode::Absolute, code_length, 42);
     let before = sink.held();
-    match write_integer(&mut sink, Mode::Absolute, code_length, 12) {
-        Ok(count) => println!(rt, "    written, {count} bits")?,
-        Err(WriteFault::Value) => tell_refusal(rt, 15)?,
-        Err(WriteFault::Store(fault)) => tell_fault(rt, fault.told())?,
-    }
+    let told = match write_integer(&mut sink, Mode::Absolute, code_length, 12) {
+        Err(WriteFault::Store(fault)) => Some(fault.told()),
+        _ => None,
+    };
     let after = sink.held();
-    println!(rt, "    bits held before {before} and after {after}")
+    Attempt {
+        told,
+        before,
+        after,
+    }
 }
 
-/// Twelve bits hold the escape of a value, and not the number that has to follow.
-pub fn ended_source(rt: &LibcRuntime, code_length: CodeLength) -> io::Result<()> {
-    println!(
-        rt,
-        "  A value from the bits 000111111111, the first three of which are read already:"
-    )?;
+/// A value of which only the escape is there, after three bits that were read; the counts are those of the position.
+pub fn ended_source(code_length: CodeLength) -> Attempt {
     let bytes = [0b0001_1111u8, 0b1111_0000];
     let mut source = FlatSource::over(&bytes, 12);
     let _ = source.take_field(3);
-    match read_integer(&mut source, Mode::Absolute, code_length) {
-        Ok(value) => println!(rt, "    read {value}")?,
-        Err(fault) => tell_fault(rt, fault.told())?,
+    let before = source.position();
+    let told = match read_integer(&mut source, Mode::Absolute, code_length) {
+        Ok(_) => None,
+        Err(fault) => Some(fault.told()),
+    };
+    let after = source.position();
+    Attempt {
+        told,
+        before,
+        after,
     }
-    let position = source.position();
-    println!(rt, "    the position is still {position}")
 }
 
-/// A length field may not send 15, nor be made of it.
-pub fn wrong_length(rt: &LibcRuntime) -> io::Result<()> {
-    println!(rt, "  A length field from the bits 11111:")?;
+/// A length field that sends 15; the counts are those of the position.
+pub fn wrong_length() -> Attempt {
     let bytes = [0b1111_1000u8];
     let mut source = FlatSource::over(&bytes, 5);
-    match LengthField::read(&mut source) {
-        Ok(_) => println!(rt, "    read")?,
-        Err(fault) => tell_fault(rt, fault.told())?,
-    }
-    let position = source.position();
-    println!(rt, "    the position is still {position}")?;
-    println!(rt, "  Default lengths 7 and 15:")?;
-    match Defaults::new(7, 15) {
-        Ok(_) => println!(rt, "    agreed"),
-        Err(fault) => tell_refusal(rt, fault.number()),
+    let before = source.position();
+    let told = match LengthField::read(&mut source) {
+        Ok(_) => None,
+        Err(fault) => Some(fault.told()),
+    };
+    let after = source.position();
+    Attempt {
+        told,
+        before,
+        after,
     }
 }
 
-/// A block that names itself as the next one is met twice.
-pub fn wrong_chain(rt: &LibcRuntime) -> io::Result<()> {
-    println!(
-        rt,
-        "  A chain of 64 bytes whose block 1 names block 1 as the next:"
-    )?;
+/// The refusal number of the default lengths 7 and 15.
+pub fn wrong_defaults() -> Option<u8> {
+    match Defaults::new(7, 15) {
+        Ok(_) => None,
+        Err(fault) => Some(fault.number()),
+    }
+}
+
+/// The refusal number of a chain in 64 bytes whose block 1 names itself as the next.
+pub fn wrong_chain() -> Option<u8> {
     let mut bytes = [0u8; 64];
     bytes[33] = 1;
     match chain::check(&bytes, 1, 0) {
-        Ok(capacity) => println!(rt, "    a chain of {capacity} bits"),
-        Err(fault) => tell_refusal(rt, fault.number()),
+        Ok(_) => None,
+        Err(fault) => Some(fault.number()),
     }
 }

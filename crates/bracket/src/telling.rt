@@ -1,11 +1,12 @@
 //! What took place, in words.
 use crate::corners::CORNERS;
 use crate::corners::Corner;
-use crate::corners::Reading;
 use crate::corners::read_one;
+use crate::refusals::Attempt;
 use bits::Layer;
 use bits::Source;
 use bits::Told;
+use lengths::CodeLength;
 use lengths::Defaults;
 use lengths::Mode;
 use lengths::faults::NumberFault;
@@ -56,30 +57,82 @@ pub fn tell_fault(rt: &LibcRuntime, told: Told) -> io::Result<()> {
     )
 }
 
-/// Prints the next `count` bits, and a dot for each that is not there.
+/// Tells a call that should be refused, and the count of `what` before and after it.
+pub fn tell_attempt(rt: &LibcRuntime, call: &str, what: &str, attempt: Attempt) -> io::Result<()> {
+    println!(rt, "  {call}:")?;
+    match attempt.told {
+        Some(told) => tell_fault(rt, told)?,
+        None => println!(rt, "    NOT REFUSED")?,
+    }
+    let before = attempt.before;
+    let after = attempt.after;
+    println!(rt, "    {what} before: {before}, after: {after}")
+}
+
+/// Tells a call that should be refused and has no state.
+pub fn tell_answer(rt: &LibcRuntime, call: &str, number: Option<u8>) -> io::Result<()> {
+    println!(rt, "  {call}:")?;
+    match number {
+        Some(number) => tell_refusal(rt, number),
+        None => println!(rt, "    NOT REFUSED"),
+    }
+}
+
+/// Prints the next bit, and a dot where there is none.
+fn print_bit<S: Source>(rt: &LibcRuntime, source: &mut S) -> io::Result<()> {
+    match source.take() {
+        Ok(true) => print!(rt, "1"),
+        Ok(false) => print!(rt, "0"),
+        Err(_) => print!(rt, "."),
+    }
+}
+
+/// Prints the next `count` bits.
 pub fn print_bits<S: Source>(rt: &LibcRuntime, source: &mut S, count: usize) -> io::Result<()> {
     for _k in 0..count {
-        match source.take() {
-            Ok(true) => print!(rt, "1")?,
-            Ok(false) => print!(rt, "0")?,
-            Err(_) => print!(rt, ".")?,
-        }
+        print_bit(rt, source)?;
     }
     Ok(())
 }
 
-/// Tells a coordinate that was read: the value, its bits and how many they are.
-fn tell_reading<S: Source>(
+/// Whether a part of an integer's code begins at its bit `k`: the first piece, the bit for the side, and pieces again.
+fn begins_part(k: usize, code_length: CodeLength) -> bool {
+    let piece = code_length.bits as usize;
+    k == piece || k > piece && (k - piece - 1) % piece == 0
+}
+
+/// Prints the next `count` bits, the code of an integer, with a blank between its parts.
+fn print_code<S: Source>(
     rt: &LibcRuntime,
     source: &mut S,
-    axis: &str,
-    reading: Reading,
+    count: usize,
+    code_length: CodeLength,
 ) -> io::Result<()> {
+    for k in 0..count {
+        if begins_part(k, code_length) {
+            print!(rt, " ")?;
+        }
+        print_bit(rt, source)?;
+    }
+    Ok(())
+}
+
+/// Reads one coordinate and tells it: the value, its bits and how many they are.
+fn tell_one<S: Source>(
+    rt: &LibcRuntime,
+    source: &mut S,
+    mode: Mode,
+    code_length: CodeLength,
+) -> io::Result<()> {
+    let reading = match read_one(source, mode, code_length) {
+        Ok(reading) => reading,
+        Err(fault) => return tell_fault(rt, fault.told()),
+    };
     let value = reading.value;
     let count = reading.to.saturating_sub(reading.from);
-    print!(rt, "  {axis} {value:>4} = ")?;
+    print!(rt, "{value:>5} = ")?;
     let _ = source.go_back(reading.from);
-    print_bits(rt, source, count)?;
+    print_code(rt, source, count, code_length)?;
     print!(rt, " ({count} bits)")
 }
 
@@ -92,17 +145,12 @@ fn tell_corner<S: Source>(
 ) -> io::Result<()> {
     let code_length = defaults.of(corner.mode);
     match corner.mode {
-        Mode::Absolute => print!(rt, "    absolute")?,
-        Mode::Relative => print!(rt, "    relative")?,
+        Mode::Absolute => print!(rt, "    absolute x")?,
+        Mode::Relative => print!(rt, "    relative x")?,
     }
-    match read_one(source, corner.mode, code_length) {
-        Ok(x) => tell_reading(rt, source, "x", x)?,
-        Err(fault) => return tell_fault(rt, fault.told()),
-    }
-    match read_one(source, corner.mode, code_length) {
-        Ok(y) => tell_reading(rt, source, "y", y)?,
-        Err(fault) => return tell_fault(rt, fault.told()),
-    }
+    tell_one(rt, source, corner.mode, code_length)?;
+    print!(rt, ", y")?;
+    tell_one(rt, source, corner.mode, code_length)?;
     println!(rt, "")
 }
 

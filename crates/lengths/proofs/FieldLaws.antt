@@ -9,12 +9,15 @@ use lib.ListN.{length, take, drop, length-append, take-append-drop}
 use lib.Seq.{take-at, drop-at, length-take-le}
 use Rattle.std.proofs.shelf.Tests.{le-ltb, lt-ltb, ltb-false, le-leb, leb-true, and-parts}
 use Rattle.bits.specs.Codes.{fixed, number}
-use Rattle.bits.specs.Stores.{Parse, got, refused}
+use Rattle.bits.specs.Stores.{Tape, left, Parse, got, refused, ReadAs, oneField}
+use Rattle.bits.specs.declared.StoreFault.{StoreFault}
 use Rattle.bits.specs.declared.StoreFault.the-variants.{End}
 use Rattle.bits.proofs.Codes.{length-fixed, fixed-low, number-field, fixed-number}
 use Rattle.lengths.specs.declared.faults.NumberFault.{NumberFault}
 use Rattle.lengths.specs.declared.faults.NumberFault.the-variants.{Store, Length}
 use Rattle.lengths.specs.Lengths.{isLength}
+use Rattle.lengths.specs.Coding.{PartAs}
+use Rattle.lengths.proofs.CodingLaws.{Taken, took, missed, bit-zero, bit-one, part-got, part-refused}
 use Rattle.lengths.specs.Fields.{sentIn, fieldCode, sentLength, oneLengthField}
 use Rattle.lengths.specs.declared.fields.LengthField.{LengthField}
 use Rattle.std.specs.declared.result.Result.{Result}
@@ -89,3 +92,35 @@ module _ (at : ℕ) (xs bs : List Bool) (is : xs ≡ true ∷ bs) where
 pub sent-in-ok : {E : Type 0} (r : Result LengthField E) → isOk (sentIn r) ≡ isOk r
 sent-in-ok (Ok f) = refl
 sent-in-ok (Err e) = refl
+
+-- a field whose first bit was taken as b
+module _ (field : ℕ) (s t : Tape) (b : ℕ) (at-s : s .position ≤ length (s .bits)) (first : ReadAs (oneField 1 field (left s)) s (Ok b) t) where
+  k : Taken 1 s b t
+  k = took 1 field s t b (omega arith) at-s first
+
+  pub default-read : b ≡ 0 → PartAs (oneLengthField field (left s)) s (Ok 0) t
+  default-read z =
+      let e = bit-zero (left s) (k .enough) (sym (k .value) ∙ z) ∙ ap (λ xs. false ∷ xs) (sym (k .rest)) in
+      part-got _ _ _ _ _ (ap (oneLengthField field) e) refl (k .same) refl (k .moved)
+
+  module _ (u : Tape) (at-t : t .position ≤ length (t .bits)) (one : b ≡ 0 → ⊥) where
+    is : left s ≡ true ∷ left t
+    is = bit-one (left s) (k .enough) (λ z. one (k .value ∙ z)) ∙ ap (λ xs. true ∷ xs) (sym (k .rest))
+
+    pub cut-read : (f : StoreFault) → ReadAs (oneField 4 field (left t)) t (Err f) u → PartAs (oneLengthField field (left s)) s (Err (Store f)) u
+    cut-read f h =
+        let m = missed 4 field t u f h in
+        let q = ap (λ z. z .position) (m .2) in
+        part-refused _ _ _ _ (sent-short field (left s) (left t) is (m .0)) (ap (λ x. Err (Store x)) (m .1)) (ap (λ z. z .bits) (m .2) ∙ k .same) (omega (arith, k .moved))
+
+    module _ (n : ℕ) (h : ReadAs (oneField 4 field (left t)) t (Ok n) u) where
+      l : Taken 4 t n u
+      l = took 4 field t u n (omega arith) at-t h
+
+      pub lawful-read : isLength n ≡ true → PartAs (oneLengthField field (left s)) s (Ok n) u
+      lawful-read f =
+          part-got _ _ _ _ _ (sent-lawful field (left s) (left t) is n (l .enough) (l .value) f) refl (l .same ∙ k .same) (l .rest) (omega (arith, k .moved, l .moved))
+
+      pub unlawful-read : isLength n ≡ false → PartAs (oneLengthField field (left s)) s (Err (Length field)) u
+      unlawful-read f =
+          part-refused _ _ _ _ (sent-unlawful field (left s) (left t) is n (l .enough) (l .value) f) refl (l .same ∙ k .same) (omega (arith, k .moved, l .moved))

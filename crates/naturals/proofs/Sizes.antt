@@ -34,11 +34,17 @@ natural-near cl r =
     omega (arith, mul-add cl q 1, mul-comm cl q, mul-le-mul-left q (le-largest cl), div-mul-le-self r (largest cl))
 
 -- a code has at least one piece
-pub natural-long : (cl r : ℕ) → cl ≤ length (naturalCode cl r)
+natural-long : (cl r : ℕ) → cl ≤ length (naturalCode cl r)
 natural-long cl r = omega (arith, length-natural cl r, mul-add cl (r / largest cl) 1)
 
 -- what is held and what is left of a code have one length in all
-pub length-rest : (held rest before all : List Bool) → held ++ rest ≡ before ++ all → length held + length rest ≡ length before + length all
+length-rest : (held rest before all : List Bool) → held ++ rest ≡ before ++ all → length held + length rest ≡ length before + length all
 length-rest held rest before all e =
     let l : length (held ++ rest) ≡ length (before ++ all) = ap length e in
     omega (arith, simp length-append at l)
+
+-- where there was room for a whole code, there is room for a piece of what is left of it
+pub room-left : (cl left r : ℕ) (held before : List Bool) {room whole : ℕ} → held ++ naturalCode cl left ≡ before ++ naturalCode cl r → room ≡ whole
+    → length before + length (naturalCode cl r) ≤ whole → length held + cl ≤ room
+room-left cl left r held before e same h =
+    omega (arith, natural-long cl left, length-rest held (naturalCode cl left) before (naturalCode cl r) e)

@@ -11,8 +11,8 @@ use Rattle.bits.specs.Stores.{left}
 use Rattle.lengths.specs.Lengths.{largest}
 use Rattle.naturals.specs.Naturals.{oneNatural, sumLimit}
 use Rattle.integers.specs.Integers.{mapped}
-use Rattle.lengths.proofs.CodingLaws.{took, part-got, part-refused, part-ok, part-err}
-use Rattle.integers.proofs.Escapes.{above, below, neither}
+use Rattle.lengths.proofs.CodingLaws.{took, part-got}
+use Rattle.integers.proofs.Escapes.{above-read, below-read, not-read}
 use Rattle.integers.proofs.IntegerLaws.{way-single}
 use Rattle.integers.proofs.take_absolute.Needs as need
 
@@ -30,69 +30,32 @@ returns-then-piece-largest g c =
 pub returns-in-Break-rest : need.returns-in-Break-rest
 returns-in-Break-rest g c =
     let S = g .S·Source in
-    let s = S .tape (c .args .source .now) in
-    let t = S .tape (c .take-part .last .source) in
-    let u = S .tape (c .take-part-2 .last .source) in
-    let v = S .tape (c .take-pieces .last .source) in
-    let cl = c .args .code-length .bits in
-    let field = c .args .field in
-    let p = c .in-Continue-piece .piece in
-    let b = c .in-Continue-above .above in
-    let k = took cl field s t p (c .args .code-length .lawful .1) (S .within (c .args .source .now)) (c .in-Continue-piece .ensures tt) in
-    let l = took 1 field t u b (omega arith) (S .within (c .take-part .last .source)) (c .in-Continue-above .ensures tt) in
     let top = c .largest-largest .ensures .value in
-    let high : largest cl ≤ p = omega arith in
-    let m = part-err (oneNatural cl field (left u)) u v _ (c .in-Break-rest .ensures tt .part) in
+    let high : largest (c .args .code-length .bits) ≤ c .in-Continue-piece .piece = omega arith in
     let q = err-from-errBy (c .from-residual-in-Break-rest .result) (c .from-residual-in-Break-rest .ensures .1) in
-    let e = neither cl field s t u p b k l high _ (m .0) in
-    rw (q .1, q .2)
-    (record { part = part-refused _ _ _ _ e refl (m .1 ∙ l .same ∙ k .same) (omega (arith, k .moved, l .moved, m .2)); small = tt })
+    let part = not-read (c .args .code-length .bits) (c .args .field) (S .tape (c .args .source .now)) (S .tape (c .take-part .last .source)) (S .tape (c .take-part-2 .last .source)) (S .tape (c .take-pieces .last .source)) (c .in-Continue-piece .piece) (c .in-Continue-above .above)
+    (c .args .code-length .lawful .1) (S .within (c .args .source .now)) (S .within (c .take-part .last .source)) (c .in-Continue-piece .ensures tt) (c .in-Continue-above .ensures tt) high _ (c .in-Break-rest .ensures tt .part) in
+    rw (q .1, q .2) (record { part = part; small = tt })
 
 pub returns-then-above-eq1 : need.returns-then-above-eq1
 returns-then-above-eq1 g c =
     let S = g .S·Source in
-    let s = S .tape (c .args .source .now) in
-    let t = S .tape (c .take-part .last .source) in
-    let u = S .tape (c .take-part-2 .last .source) in
-    let v = S .tape (c .take-pieces .last .source) in
-    let cl = c .args .code-length .bits in
-    let field = c .args .field in
-    let p = c .in-Continue-piece .piece in
-    let b = c .in-Continue-above .above in
-    let k = took cl field s t p (c .args .code-length .lawful .1) (S .within (c .args .source .now)) (c .in-Continue-piece .ensures tt) in
-    let l = took 1 field t u b (omega arith) (S .within (c .take-part .last .source)) (c .in-Continue-above .ensures tt) in
     let top = c .largest-largest .ensures .value in
-    let high : largest cl ≤ p = omega arith in
-    let n = c .in-Continue-rest .rest in
-    let m = part-ok (oneNatural cl field (left u)) u v n (c .in-Continue-rest .ensures tt .part) in
+    let high : largest (c .args .code-length .bits) ≤ c .in-Continue-piece .piece = omega arith in
     let small = c .in-Continue-rest .ensures tt .small in
     let bounds = c .largest-largest .ensures .bounds in
-    let e = above cl field s t u p b k l high (c .if-above-eq1 .taken) ∙ ap (mapped (λ n. pos (n + largest cl))) (m .0) in
-    record {
-      part = part-got _ _ _ _ _ e (ap Ok (omega (arith, ints))) (m .1 ∙ l .same ∙ k .same) refl (omega (arith, k .moved, l .moved, m .2));
-      small = (omega (arith, ints), omega (arith, ints));
-    }
+    let part = above-read (c .args .code-length .bits) (c .args .field) (S .tape (c .args .source .now)) (S .tape (c .take-part .last .source)) (S .tape (c .take-part-2 .last .source)) (S .tape (c .take-pieces .last .source)) (c .in-Continue-piece .piece) (c .in-Continue-above .above)
+    (c .args .code-length .lawful .1) (S .within (c .args .source .now)) (S .within (c .take-part .last .source)) (c .in-Continue-piece .ensures tt) (c .in-Continue-above .ensures tt) high
+    (c .if-above-eq1 .taken) (c .in-Continue-rest .rest) _ (omega (arith, ints)) (c .in-Continue-rest .ensures tt .part) in
+    record { part = part; small = (omega (arith, ints), omega (arith, ints)) }
 
 pub returns-else-above-eq1 : need.returns-else-above-eq1
 returns-else-above-eq1 g c =
     let S = g .S·Source in
-    let s = S .tape (c .args .source .now) in
-    let t = S .tape (c .take-part .last .source) in
-    let u = S .tape (c .take-part-2 .last .source) in
-    let v = S .tape (c .take-pieces .last .source) in
-    let cl = c .args .code-length .bits in
-    let field = c .args .field in
-    let p = c .in-Continue-piece .piece in
-    let b = c .in-Continue-above .above in
-    let k = took cl field s t p (c .args .code-length .lawful .1) (S .within (c .args .source .now)) (c .in-Continue-piece .ensures tt) in
-    let l = took 1 field t u b (omega arith) (S .within (c .take-part .last .source)) (c .in-Continue-above .ensures tt) in
     let top = c .largest-largest .ensures .value in
-    let high : largest cl ≤ p = omega arith in
-    let n = c .in-Continue-rest .rest in
-    let m = part-ok (oneNatural cl field (left u)) u v n (c .in-Continue-rest .ensures tt .part) in
+    let high : largest (c .args .code-length .bits) ≤ c .in-Continue-piece .piece = omega arith in
     let small = c .in-Continue-rest .ensures tt .small in
-    let e = below cl field s t u p b k l high (c .if-above-eq1 .left) ∙ ap (mapped negsuc) (m .0) in
-    record {
-      part = part-got _ _ _ _ _ e (ap Ok (omega (arith, ints))) (m .1 ∙ l .same ∙ k .same) refl (omega (arith, k .moved, l .moved, m .2));
-      small = (omega (arith, ints), omega (arith, ints));
-    }
+    let part = below-read (c .args .code-length .bits) (c .args .field) (S .tape (c .args .source .now)) (S .tape (c .take-part .last .source)) (S .tape (c .take-part-2 .last .source)) (S .tape (c .take-pieces .last .source)) (c .in-Continue-piece .piece) (c .in-Continue-above .above)
+    (c .args .code-length .lawful .1) (S .within (c .args .source .now)) (S .within (c .take-part .last .source)) (c .in-Continue-piece .ensures tt) (c .in-Continue-above .ensures tt) high
+    (c .if-above-eq1 .left) (c .in-Continue-rest .rest) _ (omega (arith, ints)) (c .in-Continue-rest .ensures tt .part) in
+    record { part = part; small = (omega (arith, ints), omega (arith, ints)) }

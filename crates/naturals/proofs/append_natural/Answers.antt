@@ -2,31 +2,24 @@ use Prim.Native.Nat.{_-_, _+_, _≤_, _<_}
 use mathlib.Core.List.{_++_, append-assoc}
 use mathlib.Core.Path.{_≡_, sym, ap, _∙_}
 use native.Mathlib.Omega.{arith}
-use lib.ListN.{length}
 use Rattle.bits.specs.Codes.{fixed}
 use Rattle.lengths.specs.Lengths.{largest}
 use Rattle.naturals.specs.Naturals.{naturalCode}
 use Rattle.naturals.proofs.Pieces.{largest-pos, code-more, code-last}
-use Rattle.naturals.proofs.Sizes.{natural-long, length-rest}
+use Rattle.naturals.proofs.Sizes.{room-left}
 use Rattle.naturals.proofs.append_natural.Needs as need
 
 pub append-requires : need.append-requires
 append-requires g c κs =
     let s = g .S·Sink in
-    let cl = c .args .code-length .bits in
     let i = c .loop-left .inv in
-    let long = natural-long cl (c .loop-left .left) in
-    let all = length-rest (s .content (c .loop-left .sink) .bits) (naturalCode cl (c .loop-left .left)) (s .content (c .args .sink .now) .bits) (naturalCode cl (c .args .number)) (i .2) in
-    omega (arith, i .1, c .pre)
+    room-left (c .args .code-length .bits) (c .loop-left .left) (c .args .number) (s .content (c .loop-left .sink) .bits) (s .content (c .args .sink .now) .bits) (i .2) (i .1) (c .pre)
 
 pub append-requires-2 : need.append-requires-2
 append-requires-2 g c κs =
     let s = g .S·Sink in
-    let cl = c .args .code-length .bits in
     let i = c .loop-left .inv in
-    let long = natural-long cl (c .loop-left .left) in
-    let all = length-rest (s .content (c .loop-left .sink) .bits) (naturalCode cl (c .loop-left .left)) (s .content (c .args .sink .now) .bits) (naturalCode cl (c .args .number)) (i .2) in
-    omega (arith, i .1, c .pre)
+    room-left (c .args .code-length .bits) (c .loop-left .left) (c .args .number) (s .content (c .loop-left .sink) .bits) (s .content (c .args .sink .now) .bits) (i .2) (i .1) (c .pre)
 
 pub loop-left-again : need.loop-left-again
 loop-left-again g c =
