@@ -1,4 +1,4 @@
--- The two forms of an integer's code.
+-- The two forms of an integer's code, for an inner call that both measuring and writing use.
 use Prim.Native.Nat.{ℕ}
 use mathlib.Core.Bool.{Bool}
 use mathlib.Core.List.{List, _∷_, _++_}

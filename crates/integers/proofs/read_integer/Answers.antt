@@ -1,7 +1,6 @@
 use mathlib.Core.Path.{_≡_}
 use mathlib.Core.Bool.{true}
 use native.Mathlib.Omega.{arith}
-use Rattle.bits.specs.Stores.{left}
 use Rattle.integers.specs.Integers.{integerCode, inRange, oneInteger}
 use Rattle.lengths.proofs.CodingLaws.{faithful, completed, part-moved}
 use Rattle.integers.proofs.IntegerLaws.{integer-back, integer-exact}
@@ -12,7 +11,7 @@ or-back-requires g c κs =
     let S = g .S·Source in
     let s = S .tape (c .args .source .now) in
     let p = c .position-start .ensures in
-    let m = part-moved (oneInteger (c .args .mode) (c .args .code-length .bits) (c .position-start .result) (left s)) s (S .tape (c .take-integer-answer .last .source)) (c .take-integer-answer .result) (c .take-integer-answer .ensures) in
+    let m = part-moved _ s (S .tape (c .take-integer-answer .last .source)) (c .take-integer-answer .result) (c .take-integer-answer .ensures) in
     omega arith
 
 pub returns : need.returns
