@@ -1,4 +1,6 @@
 //! Which commands of a path are available under a configuration, and their word numbers. For the kind of item that they are.
+#![tactic(auto)]
+
 ghost use Rattle.std.specs.Prelude.{◌≡◌, ◌<◌, ◌≤◌, false, slice_index_or};
 ghost use Rattle.availability.specs.Available.{has_lines, has_curve, allowed, uses_mode, available, before, numbered};
 

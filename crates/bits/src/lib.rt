@@ -1,4 +1,6 @@
 //! Sinks and sources of bits: what each means, and fields of fixed width through them.
+#![tactic(auto)]
+
 ghost use Rattle.std.specs.Prelude.{◌≡◌, ℕ, ◌+◌, ◌-◌, ◌*◌, ◌<◌, ◌≤◌, List, [], ◌∷◌, ◌++◌, length, is_ok, refl};
 ghost use Rattle.std.proofs.Common.{◌∙◌};
 ghost use Rattle.bits.specs.Codes.{bit as bit_of, fixed};
@@ -172,17 +174,17 @@ pub trait Source {
 
 /// Puts a field where room for it is known. For the layers above, which ask for room once.
 pub fn append<S: Sink>(sink: &mut S, width: u8, value: u32)
-    requires { length (content sink.old).bits + width ≤ (content sink.old).capacity }
-    ensures kept { kept sink.old sink.new }
-    ensures capacity { (content sink.new).capacity ≡ (content sink.old).capacity }
-    ensures bits { (content sink.new).bits ≡ (content sink.old).bits ++ fixed width value }
+    requires { length (S.content sink.old).bits + width ≤ (S.content sink.old).capacity }
+    ensures kept { S.kept sink.old sink.new }
+    ensures capacity { (S.content sink.new).capacity ≡ (S.content sink.old).capacity }
+    ensures bits { (S.content sink.new).bits ≡ (S.content sink.old).bits ++ fixed width value }
 {
     let _ = sink.put_field(width, value);
 }
 
 /// Takes the next `width` bits as a part of the field that begins at `field`: a refusal is told there.
 pub fn take_part<S: Source>(source: &mut S, width: u8, field: usize) -> Result<u32, StoreFault>
-    ensures { ReadAs (one_field width field (left (tape source.old))) (tape source.old) result (tape source.new) }
+    ensures { ReadAs (one_field width field (left (S.tape source.old))) (S.tape source.old) result (S.tape source.new) }
 {
     match source.take_field(width) {
         Ok(value) => Ok(value),
@@ -193,9 +195,9 @@ pub fn take_part<S: Source>(source: &mut S, width: u8, field: usize) -> Result<u
 /// Hands an answer on; where it is a refusal, the source goes back to `start` first.
 /// For the layers above, whose refused calls leave the source as it was.
 pub fn or_back<S: Source, T, E>(source: &mut S, start: usize, answer: Result<T, E>) -> Result<T, E>
-    requires { start ≤ (tape source.old).position }
+    requires { start ≤ (S.tape source.old).position }
     ensures answer { result ≡ answer }
-    ensures tape { tape source.new ≡ returned (is_ok answer) start (tape source.old) }
+    ensures tape { S.tape source.new ≡ returned (is_ok answer) start (S.tape source.old) }
 {
     if answer.is_err() {
         let _ = source.go_back(start);

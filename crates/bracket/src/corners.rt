@@ -95,8 +95,8 @@ fn write_corner<S: Sink>(
     defaults: &Defaults,
     corner: Corner,
 ) -> Result<(), WriteFault>
-    ensures kept { kept sink.old sink.new }
-    ensures bits { OnOk result ((content sink.new).bits ≡ (content sink.old).bits ++ corner_bits defaults.now.absolute.bits defaults.now.relative.bits corner) }
+    ensures kept { S.kept sink.old sink.new }
+    ensures bits { OnOk result ((S.content sink.new).bits ≡ (S.content sink.old).bits ++ corner_bits defaults.now.absolute.bits defaults.now.relative.bits corner) }
 {
     let code_length = defaults.of(corner.mode);
     write_integer(sink, corner.mode, code_length, corner.x)?;
@@ -110,8 +110,8 @@ pub fn write_corners<S: Sink>(
     defaults: &Defaults,
     corners: &[Corner],
 ) -> Result<(), WriteFault>
-    ensures kept { kept sink.old sink.new }
-    ensures bits { OnOk result ((content sink.new).bits ≡ (content sink.old).bits ++ corners_bits defaults.now.absolute.bits defaults.now.relative.bits corners.now) }
+    ensures kept { S.kept sink.old sink.new }
+    ensures bits { OnOk result ((S.content sink.new).bits ≡ (S.content sink.old).bits ++ corners_bits defaults.now.absolute.bits defaults.now.relative.bits corners.now) }
 {
     for i in 0..corners.len() {
         write_corner(sink, defaults, corners[i])?;

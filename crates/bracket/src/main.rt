@@ -1,4 +1,6 @@
 //! Carries the corners of a wall bracket as bits into a flat run and into a chain, and back, and tells every step.
+#![tactic(auto)]
+
 use bits::{Sink, Source};
 use chain::{ChainSink, ChainSource};
 use corners::{CORNERS, write_corners};
@@ -27,7 +29,7 @@ fn lay(bytes: &mut [u8; 160]) {
 
 /// Writes the corners into a sink and tells what came of it; answers how many bits are held then.
 fn write_all<S: Sink>(rt: &HostRuntime, sink: &mut S, defaults: &Defaults) -> io::Result<usize>
-    ensures { kept sink.old sink.new }
+    ensures { S.kept sink.old sink.new }
 {
     let capacity = S::capacity(sink);
     match write_corners(sink, defaults, &CORNERS) {

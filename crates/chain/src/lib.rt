@@ -1,5 +1,7 @@
 //! The chain: 32-byte blocks in 64 to 65,536 bytes. A block begins with the index of the next one, big-endian, and zero ends the chain;
 //! its other 30 bytes carry 240 bits.
+#![tactic(auto)]
+
 ghost use Rattle.std.specs.Prelude.{◌≡◌, ℕ, ◌*◌, ◌/◌, ◌<◌, ◌≤◌, length, Result, MatchOption};
 ghost use Rattle.layout.specs.declared.LayoutFault.{LayoutFault as Fault};
 ghost use Rattle.chain.specs.Chain.{link as link_of, met, Linked, Chained, spot, chain_bits, Checked, opens_at, laid, ChainKept};

@@ -1,4 +1,6 @@
 //! The commands of a path: the table of what each is, and the record of one.
+#![tactic(auto)]
+
 ghost use Rattle.std.specs.Prelude.{◌≡◌, ℕ, ◌≤◌, [], ◌∷◌, slice_index_or};
 ghost use Rattle.commands.specs.Table.{rows, done};
 ghost use Rattle.commands.specs.Commands.{command, in_mode, flag};

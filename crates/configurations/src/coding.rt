@@ -45,10 +45,10 @@ impl PathConfiguration {
 
     /// Puts its bits where room for them is known. For the layers above.
     pub fn append_to<S: Sink>(self, sink: &mut S)
-        requires { length (content sink.old).bits + length (configuration_code self.fields) ≤ (content sink.old).capacity }
-        ensures kept { kept sink.old sink.new }
-        ensures capacity { (content sink.new).capacity ≡ (content sink.old).capacity }
-        ensures bits { (content sink.new).bits ≡ (content sink.old).bits ++ configuration_code self.fields }
+        requires { length (S.content sink.old).bits + length (configuration_code self.fields) ≤ (S.content sink.old).capacity }
+        ensures kept { S.kept sink.old sink.new }
+        ensures capacity { (S.content sink.new).capacity ≡ (S.content sink.old).capacity }
+        ensures bits { (S.content sink.new).bits ≡ (S.content sink.old).bits ++ configuration_code self.fields }
     {
         let c = self.fields;
         append(sink, 7, c.flags as u32);
@@ -61,8 +61,8 @@ impl PathConfiguration {
 
     /// Writes it, and answers how many bits that took. Want of room is refused with 10.
     pub fn write<S: Sink>(self, sink: &mut S) -> Result<usize, WriteFault>
-        ensures kept { kept sink.old sink.new }
-        ensures wrote { Wrote true (configuration_code self.fields) (content sink.old) result (content sink.new) }
+        ensures kept { S.kept sink.old sink.new }
+        ensures wrote { Wrote true (configuration_code self.fields) (S.content sink.old) result (S.content sink.new) }
     {
         let length = self.length();
         sink.room_for(length)?;
@@ -73,8 +73,8 @@ impl PathConfiguration {
     /// Reads a configuration. A source that ends is refused with 17, a sent length of 0 or 15 with 21, and curves that are declared but all
     /// absent with 4, each told at its field's first bit; then the source is as before.
     pub fn read<S: Source>(source: &mut S) -> Result<PathConfiguration, ListFault>
-        ensures reads { Reads one_configuration (tape source.old) (fields_in result) (tape source.new) }
-        ensures faithful { Faithful configuration_code (λ c. lawful_fields c ≡ true) (tape source.old) (fields_in result) (tape source.new) }
+        ensures reads { Reads one_configuration (S.tape source.old) (fields_in result) (S.tape source.new) }
+        ensures faithful { Faithful configuration_code (λ c. lawful_fields c ≡ true) (S.tape source.old) (fields_in result) (S.tape source.new) }
     {
         let start = S::position(source);
         let answer = take_fields(source);
@@ -94,10 +94,10 @@ fn sent_length(sent: bool, bits: usize) -> usize
 
 /// Puts a field of so many bits, if it is sent.
 fn append_sent<S: Sink>(sink: &mut S, sent: bool, width: u8, value: u8)
-    requires { length (content sink.old).bits + length (sent_bits sent (fixed width value)) ≤ (content sink.old).capacity }
-    ensures kept { kept sink.old sink.new }
-    ensures capacity { (content sink.new).capacity ≡ (content sink.old).capacity }
-    ensures bits { (content sink.new).bits ≡ (content sink.old).bits ++ sent_bits sent (fixed width value) }
+    requires { length (S.content sink.old).bits + length (sent_bits sent (fixed width value)) ≤ (S.content sink.old).capacity }
+    ensures kept { S.kept sink.old sink.new }
+    ensures capacity { (S.content sink.new).capacity ≡ (S.content sink.old).capacity }
+    ensures bits { (S.content sink.new).bits ≡ (S.content sink.old).bits ++ sent_bits sent (fixed width value) }
 {
     if sent {
         append(sink, width, value as u32);
@@ -106,10 +106,10 @@ fn append_sent<S: Sink>(sink: &mut S, sent: bool, width: u8, value: u8)
 
 /// Puts a length field, if it is sent.
 fn append_length<S: Sink>(sink: &mut S, sent: bool, bits: u8)
-    requires { (bits ≤ 14) × (length (content sink.old).bits + length (sent_bits sent (field_code bits)) ≤ (content sink.old).capacity) }
-    ensures kept { kept sink.old sink.new }
-    ensures capacity { (content sink.new).capacity ≡ (content sink.old).capacity }
-    ensures bits { (content sink.new).bits ≡ (content sink.old).bits ++ sent_bits sent (field_code bits) }
+    requires { (bits ≤ 14) × (length (S.content sink.old).bits + length (sent_bits sent (field_code bits)) ≤ (S.content sink.old).capacity) }
+    ensures kept { S.kept sink.old sink.new }
+    ensures capacity { (S.content sink.new).capacity ≡ (S.content sink.old).capacity }
+    ensures bits { (S.content sink.new).bits ≡ (S.content sink.old).bits ++ sent_bits sent (field_code bits) }
 {
     if sent {
         field_of(bits).append_to(sink);
@@ -118,7 +118,7 @@ fn append_length<S: Sink>(sink: &mut S, sent: bool, bits: u8)
 
 /// The fields in their order. A refusal leaves the source further on.
 fn take_fields<S: Source>(source: &mut S) -> Result<PathFields, ListFault>
-    ensures { PartAs (one_configuration (tape source.old).position (left (tape source.old))) (tape source.old) result (tape source.new) }
+    ensures { PartAs (one_configuration (S.tape source.old).position (left (S.tape source.old))) (S.tape source.old) result (S.tape source.new) }
 {
     let flags = read_flags(source)?;
     let mut c = PathFields {
@@ -140,7 +140,7 @@ fn take_fields<S: Source>(source: &mut S) -> Result<PathFields, ListFault>
 /// A field of at most eight bits. A refusal is told at `field`.
 fn read_bits<S: Source>(source: &mut S, width: u8, field: usize) -> Result<u8, ListFault>
     requires { width ≤ 8 }
-    ensures { ReadAs (one_number width field (left (tape source.old))) (tape source.old) result (tape source.new) }
+    ensures { ReadAs (one_number width field (left (S.tape source.old))) (S.tape source.old) result (S.tape source.new) }
 {
     let value = take_part(source, width, field)?;
     Ok(value as u8)
@@ -148,7 +148,7 @@ fn read_bits<S: Source>(source: &mut S, width: u8, field: usize) -> Result<u8, L
 
 /// The seven flags. Where the source ends, the first flag that is not there is told.
 fn read_flags<S: Source>(source: &mut S) -> Result<u8, ListFault>
-    ensures { Reads one_flags (tape source.old) result (tape source.new) }
+    ensures { Reads one_flags (S.tape source.old) result (S.tape source.new) }
 {
     let end = S::length(source);
     read_bits(source, 7, end)
@@ -157,7 +157,7 @@ fn read_flags<S: Source>(source: &mut S) -> Result<u8, ListFault>
 /// A field of at most eight bits, if it is sent.
 fn read_number<S: Source>(source: &mut S, sent: bool, width: u8) -> Result<u8, ListFault>
     requires { width ≤ 8 }
-    ensures { Reads (if_sent sent (one_number width)) (tape source.old) result (tape source.new) }
+    ensures { Reads (if_sent sent (one_number width)) (S.tape source.old) result (S.tape source.new) }
 {
     if !sent {
         return Ok(0);
@@ -168,7 +168,7 @@ fn read_number<S: Source>(source: &mut S, sent: bool, width: u8) -> Result<u8, L
 
 /// A length field, if it is sent.
 fn read_length<S: Source>(source: &mut S, sent: bool) -> Result<u8, ListFault>
-    ensures { Reads (if_sent sent one_length) (tape source.old) result (tape source.new) }
+    ensures { Reads (if_sent sent one_length) (S.tape source.old) result (S.tape source.new) }
 {
     if !sent {
         return Ok(0);
@@ -179,7 +179,7 @@ fn read_length<S: Source>(source: &mut S, sent: bool) -> Result<u8, ListFault>
 
 /// The four bits for C, S, Q and T, if they are sent: not all of them may be absent.
 fn read_curves<S: Source>(source: &mut S, sent: bool) -> Result<u8, ListFault>
-    ensures { Reads (if_sent sent one_curves) (tape source.old) result (tape source.new) }
+    ensures { Reads (if_sent sent one_curves) (S.tape source.old) result (S.tape source.new) }
 {
     let position = S::position(source);
     let curves = read_number(source, sent, 4)?;

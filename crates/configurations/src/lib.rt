@@ -1,4 +1,6 @@
 //! The path configuration: which commands a path may have, and the lengths of their values.
+#![tactic(auto)]
+
 ghost use Rattle.std.specs.Prelude.{◌≡◌, ◌&&◌, nat_le, nat_lt};
 ghost use Rattle.configurations.specs.Settings.{flagged as flagged_of, uses_absolute, uses_relative, sent_or_zero, fields_lawful, curves_lawful};
 ghost use Rattle.configurations.specs.Configurations.{configuration_number};

@@ -1,4 +1,6 @@
 //! The flat run: up to 65,536 bytes, whose bits are all used in order.
+#![tactic(auto)]
+
 ghost use Rattle.std.specs.Prelude.{◌≡◌, ◌*◌, ◌≤◌, length, refl};
 ghost use Rattle.flat.specs.Flat.{flat_bits, flat_check};
 ghost use Rattle.layout.specs.Laws.{kept_stays, kept_joined, stored_within, stored_length};

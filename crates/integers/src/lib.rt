@@ -1,4 +1,6 @@
 //! Integers in absolute and in relative mode.
+#![tactic(auto)]
+
 ghost use Rattle.std.specs.Prelude.{◌≡◌, ℕ, ◌+◌, ◌≤◌, true, ◌++◌, length, pos, negsuc, ◌≤ℤ◌, IfOk};
 ghost use Rattle.bits.specs.Stores.{left, Reads};
 ghost use Rattle.lengths.specs.Coding.{Wrote, Faithful, PartAs};
@@ -69,10 +71,10 @@ pub fn integer_length(mode: Mode, code_length: CodeLength, value: i32) -> usize
 
 /// Puts the code of a value where room for it is known. For this layer and those above.
 pub fn append_integer<S: Sink>(sink: &mut S, mode: Mode, code_length: CodeLength, value: i32)
-    requires { length (content sink.old).bits + length (integer_code mode code_length.bits value) ≤ (content sink.old).capacity }
-    ensures kept { kept sink.old sink.new }
-    ensures capacity { (content sink.new).capacity ≡ (content sink.old).capacity }
-    ensures bits { (content sink.new).bits ≡ (content sink.old).bits ++ integer_code mode code_length.bits value }
+    requires { length (S.content sink.old).bits + length (integer_code mode code_length.bits value) ≤ (S.content sink.old).capacity }
+    ensures kept { S.kept sink.old sink.new }
+    ensures capacity { (S.content sink.new).capacity ≡ (S.content sink.old).capacity }
+    ensures bits { (S.content sink.new).bits ≡ (S.content sink.old).bits ++ integer_code mode code_length.bits value }
 {
     match shape_of(mode, code_length, value) {
         Shape::Single(piece) => append(sink, code_length.bits, piece),
@@ -91,8 +93,8 @@ pub fn write_integer<S: Sink>(
     code_length: CodeLength,
     value: i32,
 ) -> Result<usize, WriteFault>
-    ensures kept { kept sink.old sink.new }
-    ensures wrote { Wrote (in_range value) (integer_code mode code_length.bits value) (content sink.old) result (content sink.new) }
+    ensures kept { S.kept sink.old sink.new }
+    ensures wrote { Wrote (in_range value) (integer_code mode code_length.bits value) (S.content sink.old) result (S.content sink.new) }
 {
     if !in_range(value) {
         return Err(WriteFault::Value);
@@ -109,7 +111,7 @@ fn take_absolute<S: Source>(
     code_length: CodeLength,
     field: usize,
 ) -> Result<i32, NumberFault>
-    ensures part { PartAs (one_absolute sum_limit code_length.bits field (left (tape source.old))) (tape source.old) result (tape source.new) }
+    ensures part { PartAs (one_absolute sum_limit code_length.bits field (left (S.tape source.old))) (S.tape source.old) result (S.tape source.new) }
     ensures small { IfOk result (λ v. (negsuc sum_limit ≤ℤ v) × (v ≤ℤ pos (sum_limit + 16383))) }
 {
     let piece = take_part(source, code_length.bits, field)?;
@@ -133,7 +135,7 @@ fn take_integer<S: Source>(
     code_length: CodeLength,
     field: usize,
 ) -> Result<i32, NumberFault>
-    ensures { PartAs (one_integer mode code_length.bits field (left (tape source.old))) (tape source.old) result (tape source.new) }
+    ensures { PartAs (one_integer mode code_length.bits field (left (S.tape source.old))) (S.tape source.old) result (S.tape source.new) }
 {
     let value = take_absolute(source, code_length, field)? - offset(mode, code_length);
     if !in_range(value) {
@@ -149,8 +151,8 @@ pub fn read_integer<S: Source>(
     mode: Mode,
     code_length: CodeLength,
 ) -> Result<i32, NumberFault>
-    ensures reads { Reads (one_integer mode code_length.bits) (tape source.old) result (tape source.new) }
-    ensures faithful { Faithful (integer_code mode code_length.bits) (λ v. in_range v ≡ true) (tape source.old) result (tape source.new) }
+    ensures reads { Reads (one_integer mode code_length.bits) (S.tape source.old) result (S.tape source.new) }
+    ensures faithful { Faithful (integer_code mode code_length.bits) (λ v. in_range v ≡ true) (S.tape source.old) result (S.tape source.new) }
 {
     let start = source.position();
     let answer = take_integer(source, mode, code_length, start);

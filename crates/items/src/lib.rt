@@ -1,4 +1,6 @@
 //! Kinds of item and the law that each keeps; the list over lent places; the faults of lists.
+#![tactic(auto)]
+
 ghost use Rattle.std.specs.Prelude.{◌≡◌, ℕ, ◌+◌, ◌≤◌, true, ◌++◌, length};
 ghost use Rattle.bits.specs.Stores.{Reads};
 ghost use Rattle.items.specs.Kinds.{Kind, lawful, ReadBack, ReadExact};

@@ -1,4 +1,6 @@
 //! What stores in lent bytes share: bits in bytes, and the faults of a store's check.
+#![tactic(auto)]
+
 ghost use Rattle.std.specs.Prelude.{◌≡◌, ◌-◌, ◌<◌};
 ghost use Rattle.bits.specs.Codes.{bit as bit_of};
 ghost use Rattle.layout.specs.Layout.{SetBit, layout_number};

@@ -64,10 +64,10 @@ impl LengthField {
 
     /// Puts the field where room for it is known. For this layer and those above.
     pub fn append_to<S: Sink>(self, sink: &mut S)
-        requires { length (content sink.old).bits + length (field_code (sent_by self)) ≤ (content sink.old).capacity }
-        ensures kept { kept sink.old sink.new }
-        ensures capacity { (content sink.new).capacity ≡ (content sink.old).capacity }
-        ensures bits { (content sink.new).bits ≡ (content sink.old).bits ++ field_code (sent_by self) }
+        requires { length (S.content sink.old).bits + length (field_code (sent_by self)) ≤ (S.content sink.old).capacity }
+        ensures kept { S.kept sink.old sink.new }
+        ensures capacity { (S.content sink.new).capacity ≡ (S.content sink.old).capacity }
+        ensures bits { (S.content sink.new).bits ≡ (S.content sink.old).bits ++ field_code (sent_by self) }
     {
         match self {
             LengthField::Default => append(sink, 1, 0),
@@ -77,8 +77,8 @@ impl LengthField {
 
     /// Writes the field, and answers how many bits that took. Want of room is refused with 10.
     pub fn write<S: Sink>(self, sink: &mut S) -> Result<usize, WriteFault>
-        ensures kept { kept sink.old sink.new }
-        ensures wrote { Wrote true (field_code (sent_by self)) (content sink.old) result (content sink.new) }
+        ensures kept { S.kept sink.old sink.new }
+        ensures wrote { Wrote true (field_code (sent_by self)) (S.content sink.old) result (S.content sink.new) }
     {
         let length = self.length();
         sink.room_for(length)?;
@@ -89,8 +89,8 @@ impl LengthField {
     /// Reads a field. A source that ends within it is refused with 17, and a sent length of 0 or 15 with 21, both told at its first bit;
     /// then the source is as before.
     pub fn read<S: Source>(source: &mut S) -> Result<LengthField, NumberFault>
-        ensures reads { Reads one_length_field (tape source.old) (sent_in result) (tape source.new) }
-        ensures faithful { Faithful field_code (λ n. n ≤ 14) (tape source.old) (sent_in result) (tape source.new) }
+        ensures reads { Reads one_length_field (S.tape source.old) (sent_in result) (S.tape source.new) }
+        ensures faithful { Faithful field_code (λ n. n ≤ 14) (S.tape source.old) (sent_in result) (S.tape source.new) }
     {
         let start = source.position();
         let answer = take_length_field(source, start);
@@ -111,7 +111,7 @@ pub fn field_of(bits: u8) -> LengthField
 
 /// A length field that begins at `field`.
 fn take_length_field<S: Source>(source: &mut S, field: usize) -> Result<LengthField, NumberFault>
-    ensures { PartAs (one_length_field field (left (tape source.old))) (tape source.old) (sent_in result) (tape source.new) }
+    ensures { PartAs (one_length_field field (left (S.tape source.old))) (S.tape source.old) (sent_in result) (S.tape source.new) }
 {
     if take_part(source, 1, field)? == 0 {
         return Ok(LengthField::Default);

@@ -1,4 +1,6 @@
 //! Code lengths: the type, the pair of default lengths that writer and reader agree on, the length field, and the faults of numbers.
+#![tactic(auto)]
+
 ghost use Rattle.std.specs.Prelude.{◌≡◌, ℕ, ◌≤◌, true, false, MatchOption, MatchResult};
 ghost use Rattle.lengths.specs.Faults.{defaults_number};
 ghost use Rattle.lengths.specs.Lengths.{is_length, largest as largest_piece, length_in, Refuses};

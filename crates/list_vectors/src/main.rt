@@ -1,4 +1,6 @@
 //! Compares the bits of path data and transforms with the examples of the format, one line each: what is given, what is expected, what came.
+#![tactic(auto)]
+
 use bits::{Sink, Source};
 use commands::Command;
 use configurations::PathFields;

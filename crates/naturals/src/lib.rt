@@ -1,4 +1,6 @@
 //! Natural numbers in pieces.
+#![tactic(auto)]
+
 ghost use Rattle.std.specs.Prelude.{◌≡◌, ℕ, ◌+◌, ◌*◌, ◌≤◌, ◌++◌, length, IfOk, nat_le};
 ghost use Rattle.bits.specs.Stores.{left, Reads};
 ghost use Rattle.lengths.specs.Coding.{Wrote, Faithful, PartAs};
@@ -21,10 +23,10 @@ pub fn natural_length(code_length: CodeLength, number: u32) -> usize
 
 /// Puts the code of a number where room for it is known. For this layer and those above.
 pub fn append_natural<S: Sink>(sink: &mut S, code_length: CodeLength, number: u32)
-    requires { length (content sink.old).bits + length (natural_code code_length.bits number) ≤ (content sink.old).capacity }
-    ensures kept { kept sink.old sink.new }
-    ensures capacity { (content sink.new).capacity ≡ (content sink.old).capacity }
-    ensures bits { (content sink.new).bits ≡ (content sink.old).bits ++ natural_code code_length.bits number }
+    requires { length (S.content sink.old).bits + length (natural_code code_length.bits number) ≤ (S.content sink.old).capacity }
+    ensures kept { S.kept sink.old sink.new }
+    ensures capacity { (S.content sink.new).capacity ≡ (S.content sink.old).capacity }
+    ensures bits { (S.content sink.new).bits ≡ (S.content sink.old).bits ++ natural_code code_length.bits number }
 {
     let largest = code_length.largest();
     let mut left = number;
@@ -41,8 +43,8 @@ pub fn write_natural<S: Sink>(
     code_length: CodeLength,
     number: u32,
 ) -> Result<usize, WriteFault>
-    ensures kept { kept sink.old sink.new }
-    ensures wrote { Wrote (nat_le number sum_limit) (natural_code code_length.bits number) (content sink.old) result (content sink.new) }
+    ensures kept { S.kept sink.old sink.new }
+    ensures wrote { Wrote (nat_le number sum_limit) (natural_code code_length.bits number) (S.content sink.old) result (S.content sink.new) }
 {
     if number > SUM_LIMIT {
         return Err(WriteFault::Value);
@@ -60,7 +62,7 @@ pub fn take_pieces<S: Source>(
     code_length: CodeLength,
     field: usize,
 ) -> Result<u32, NumberFault>
-    ensures part { PartAs (one_natural code_length.bits field (left (tape source.old))) (tape source.old) result (tape source.new) }
+    ensures part { PartAs (one_natural code_length.bits field (left (S.tape source.old))) (S.tape source.old) result (S.tape source.new) }
     ensures small { IfOk result (λ n. n ≤ sum_limit) }
 {
     let largest = code_length.largest();
@@ -81,8 +83,8 @@ pub fn take_pieces<S: Source>(
 /// Reads a number. A source that ends within it is refused with 17 and a sum of pieces over `SUM_LIMIT` with 22, both told at its first bit;
 /// then the source is as before.
 pub fn read_natural<S: Source>(source: &mut S, code_length: CodeLength) -> Result<u32, NumberFault>
-    ensures reads { Reads (one_natural code_length.bits) (tape source.old) result (tape source.new) }
-    ensures faithful { Faithful (natural_code code_length.bits) (λ n. n ≤ sum_limit) (tape source.old) result (tape source.new) }
+    ensures reads { Reads (one_natural code_length.bits) (S.tape source.old) result (S.tape source.new) }
+    ensures faithful { Faithful (natural_code code_length.bits) (λ n. n ≤ sum_limit) (S.tape source.old) result (S.tape source.new) }
 {
     let start = source.position();
     let answer = take_pieces(source, code_length, start);

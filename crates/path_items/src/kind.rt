@@ -132,10 +132,10 @@ fn append_value<S: Sink>(
     index: usize,
     value: i32,
 )
-    requires { (value_lawful «entry» index value ≡ true) × (length (content sink.old).bits + length (value_code agreed.now.configuration.fields agreed.now.defaults «entry» index value) ≤ (content sink.old).capacity) }
-    ensures kept { kept sink.old sink.new }
-    ensures capacity { (content sink.new).capacity ≡ (content sink.old).capacity }
-    ensures bits { (content sink.new).bits ≡ (content sink.old).bits ++ value_code agreed.now.configuration.fields agreed.now.defaults «entry» index value }
+    requires { (value_lawful «entry» index value ≡ true) × (length (S.content sink.old).bits + length (value_code agreed.now.configuration.fields agreed.now.defaults «entry» index value) ≤ (S.content sink.old).capacity) }
+    ensures kept { S.kept sink.old sink.new }
+    ensures capacity { (S.content sink.new).capacity ≡ (S.content sink.old).capacity }
+    ensures bits { (S.content sink.new).bits ≡ (S.content sink.old).bits ++ value_code agreed.now.configuration.fields agreed.now.defaults «entry» index value }
 {
     if is_flag(entry.2, index) {
         append(sink, 1, value as u32);
@@ -152,7 +152,7 @@ fn read_value<S: Source>(
     entry: Entry,
     index: usize,
 ) -> Result<i32, ListFault>
-    ensures { Reads (one_value agreed.now.configuration.fields agreed.now.defaults «entry» index) (tape source.old) result (tape source.new) }
+    ensures { Reads (one_value agreed.now.configuration.fields agreed.now.defaults «entry» index) (S.tape source.old) result (S.tape source.new) }
 {
     if is_flag(entry.2, index) {
         let bit = source.take()?;
@@ -170,7 +170,7 @@ fn take_numbered<S: Source>(
     number: u8,
 ) -> Result<Option<Command>, ListFault>
     requires { number ≤ 25 }
-    ensures { PartAs (one_numbered agreed.now.configuration.fields agreed.now.defaults number (tape source.old).position (left (tape source.old))) (tape source.old) result (tape source.new) }
+    ensures { PartAs (one_numbered agreed.now.configuration.fields agreed.now.defaults number (S.tape source.old).position (left (S.tape source.old))) (S.tape source.old) result (S.tape source.new) }
 {
     if number == DONE {
         return Ok(None);
@@ -189,7 +189,7 @@ fn take_command<S: Source>(
     source: &mut S,
     agreed: &AgreedConfiguration,
 ) -> Result<Option<Command>, ListFault>
-    ensures { PartAs (one_command agreed.now.configuration.fields agreed.now.defaults (tape source.old).position (left (tape source.old))) (tape source.old) result (tape source.new) }
+    ensures { PartAs (one_command agreed.now.configuration.fields agreed.now.defaults (S.tape source.old).position (left (S.tape source.old))) (S.tape source.old) result (S.tape source.new) }
 {
     let word = agreed.words.read(source)?;
     let number = number_of(agreed.configuration.fields, word);

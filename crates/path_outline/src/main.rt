@@ -1,4 +1,6 @@
 //! Carries the worked example's path data and a list of transforms as bits into a flat run and back, and tells every step.
+#![tactic(auto)]
+
 use commands::Command;
 use configurations::path::PathConfiguration;
 use lengths::{Defaults, Mode};

@@ -1,4 +1,6 @@
 //! A third kind of item, small, to show that a new kind proves its own law and nothing else.
+#![tactic(auto)]
+
 ghost use Rattle.std.specs.Prelude.{◌≡◌};
 ghost use Rattle.std.proofs.Common.{lit≤, rules};
 ghost use Rattle.items.specs.declared.faults.ListName.TheVariants.{Other};

@@ -1,4 +1,6 @@
 //! Transforms as a kind of item.
+#![tactic(auto)]
+
 ghost use Rattle.std.specs.Prelude.{◌≡◌, ◌+◌, ◌≤◌, true, ◌++◌, length};
 ghost use Rattle.std.proofs.Common.{lit≤};
 ghost use Rattle.bits.specs.Stores.{left, Reads};
@@ -92,10 +94,10 @@ fn argument_length(default: CodeLength, argument: PlainArgument) -> usize
 
 /// Puts an argument where room for it is known.
 fn append_argument<S: Sink>(sink: &mut S, default: CodeLength, argument: PlainArgument)
-    requires { (argument.length ≤ 14) × (length (content sink.old).bits + length (argument_code default.bits argument) ≤ (content sink.old).capacity) }
-    ensures kept { kept sink.old sink.new }
-    ensures capacity { (content sink.new).capacity ≡ (content sink.old).capacity }
-    ensures bits { (content sink.new).bits ≡ (content sink.old).bits ++ argument_code default.bits argument }
+    requires { (argument.length ≤ 14) × (length (S.content sink.old).bits + length (argument_code default.bits argument) ≤ (S.content sink.old).capacity) }
+    ensures kept { S.kept sink.old sink.new }
+    ensures capacity { (S.content sink.new).capacity ≡ (S.content sink.old).capacity }
+    ensures bits { (S.content sink.new).bits ≡ (S.content sink.old).bits ++ argument_code default.bits argument }
 {
     let field = field_of(argument.length);
     field.append_to(sink);
@@ -104,7 +106,7 @@ fn append_argument<S: Sink>(sink: &mut S, default: CodeLength, argument: PlainAr
 
 /// An argument. A refusal leaves the source further on.
 fn take_argument<S: Source>(source: &mut S, default: CodeLength) -> Result<PlainArgument, ListFault>
-    ensures { PartAs (one_argument default.bits (tape source.old).position (left (tape source.old))) (tape source.old) result (tape source.new) }
+    ensures { PartAs (one_argument default.bits (S.tape source.old).position (left (S.tape source.old))) (S.tape source.old) result (S.tape source.new) }
 {
     let field = LengthField::read(source)?;
     let value = read_integer(source, Mode::Absolute, field.chosen(default))?;
@@ -116,7 +118,7 @@ fn take_argument<S: Source>(source: &mut S, default: CodeLength) -> Result<Plain
 
 /// The mark of a type that has one; otherwise it is 0.
 fn read_mark<S: Source>(source: &mut S, kind: u8) -> Result<u8, ListFault>
-    ensures reads { Reads (one_mark kind) (tape source.old) result (tape source.new) }
+    ensures reads { Reads (one_mark kind) (S.tape source.old) result (S.tape source.new) }
 {
     if !marked(kind) {
         return Ok(0);
@@ -131,7 +133,7 @@ fn take_of_type<S: Source>(
     default: CodeLength,
     kind: u8,
 ) -> Result<Option<Transform>, ListFault>
-    ensures { PartAs (one_of_type default.bits kind (tape source.old).position (left (tape source.old))) (tape source.old) result (tape source.new) }
+    ensures { PartAs (one_of_type default.bits kind (S.tape source.old).position (left (S.tape source.old))) (S.tape source.old) result (S.tape source.new) }
 {
     let mut arguments = [UNUSED; 6];
     arguments[0] = take_argument(source, default)?;
@@ -147,7 +149,7 @@ fn take_transform<S: Source>(
     source: &mut S,
     default: CodeLength,
 ) -> Result<Option<Transform>, ListFault>
-    ensures { PartAs (one_transform default.bits (tape source.old).position (left (tape source.old))) (tape source.old) result (tape source.new) }
+    ensures { PartAs (one_transform default.bits (S.tape source.old).position (left (S.tape source.old))) (S.tape source.old) result (S.tape source.new) }
 {
     let kind = words().read(source)? as u8;
     if kind == END {

@@ -1,4 +1,6 @@
 //! Compares the bits of numbers with the examples of the format, one line each: what is given, what is expected, what came.
+#![tactic(auto)]
+
 use bits::{Sink, Source};
 use flat::{FlatSink, FlatSource};
 use integers::write_integer;

@@ -1,4 +1,6 @@
 //! The words of a count of numbers: each has one of two widths, and none begins another.
+#![tactic(auto)]
+
 ghost use Rattle.std.specs.Prelude.{◌≡◌, ℕ, suc, ◌+◌, ◌<◌, ◌≤◌, ◌++◌, length, MatchOption, nat_lt};
 ghost use Rattle.bits.specs.Stores.{left, Reads};
 ghost use Rattle.lengths.specs.Coding.{Wrote, Faithful, PartAs};
@@ -54,10 +56,10 @@ impl Words {
 
     /// Puts a number's word where room for it is known. For the layers above.
     pub fn append_to<S: Sink>(self, sink: &mut S, number: u16)
-        requires { length (content sink.old).bits + length (word self.count number) ≤ (content sink.old).capacity }
-        ensures kept { kept sink.old sink.new }
-        ensures capacity { (content sink.new).capacity ≡ (content sink.old).capacity }
-        ensures bits { (content sink.new).bits ≡ (content sink.old).bits ++ word self.count number }
+        requires { length (S.content sink.old).bits + length (word self.count number) ≤ (S.content sink.old).capacity }
+        ensures kept { S.kept sink.old sink.new }
+        ensures capacity { (S.content sink.new).capacity ≡ (S.content sink.old).capacity }
+        ensures bits { (S.content sink.new).bits ≡ (S.content sink.old).bits ++ word self.count number }
     {
         let short = self.short_words();
         if (number as u32) < short {
@@ -69,8 +71,8 @@ impl Words {
 
     /// Writes a number's word, and answers how many bits that took. A number that has no word is refused with 15, want of room with 10.
     pub fn write<S: Sink>(self, sink: &mut S, number: u16) -> Result<usize, WriteFault>
-        ensures kept { kept sink.old sink.new }
-        ensures wrote { Wrote (nat_lt number self.count) (word self.count number) (content sink.old) result (content sink.new) }
+        ensures kept { S.kept sink.old sink.new }
+        ensures wrote { Wrote (nat_lt number self.count) (word self.count number) (S.content sink.old) result (S.content sink.new) }
     {
         if number >= self.count {
             return Err(WriteFault::Value);
@@ -83,8 +85,8 @@ impl Words {
 
     /// Reads a word, and answers its number. A source that ends within it is refused with 17, told at its first bit; then the source is as before.
     pub fn read<S: Source>(self, source: &mut S) -> Result<u16, NumberFault>
-        ensures reads { Reads (one_word self.count) (tape source.old) result (tape source.new) }
-        ensures faithful { Faithful (word self.count) (λ i. i < self.count) (tape source.old) result (tape source.new) }
+        ensures reads { Reads (one_word self.count) (S.tape source.old) result (S.tape source.new) }
+        ensures faithful { Faithful (word self.count) (λ i. i < self.count) (S.tape source.old) result (S.tape source.new) }
     {
         let start = source.position();
         let answer = self.take_word(source, start);
@@ -93,7 +95,7 @@ impl Words {
 
     /// A word that begins at `field`.
     fn take_word<S: Source>(self, source: &mut S, field: usize) -> Result<u16, NumberFault>
-        ensures { PartAs (one_word self.count field (left (tape source.old))) (tape source.old) result (tape source.new) }
+        ensures { PartAs (one_word self.count field (left (S.tape source.old))) (S.tape source.old) result (S.tape source.new) }
     {
         let short = self.short_words();
         let first = take_part(source, self.width, field)?;
