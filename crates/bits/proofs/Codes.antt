@@ -1,5 +1,5 @@
 -- Laws of bits and numbers.
-use Rattle.std.proofs.Common.{◌≡◌, ℕ, zero, suc, ◌+◌, ◌-◌, ◌*◌, ◌/◌, ◌%◌, ◌^◌, ◌<◌, ◌≤◌, Bool, true, false, cond, eqb, List, [], ◌∷◌, ◌++◌, length, take, sym, refl, ap, ◌∙◌, ⊎_elim, append_assoc, mod-eq_of_lt, mul_assoc, mul_comm, pow-suc, add-one, arith, length-append, length-take, pow_mono}
+use Rattle.std.proofs.Common.{◌≡◌, ℕ, zero, suc, ◌+◌, ◌-◌, ◌*◌, ◌/◌, ◌%◌, ◌^◌, ◌<◌, ◌≤◌, Bool, true, false, eqb, List, [], ◌∷◌, ◌++◌, length, sym, refl, ap, ◌∙◌, append_assoc, mod-eq_of_lt, mul_assoc, mul_comm, pow-suc, add-one, arith, length-append, pow_mono}
 use native.Mathlib.Nat.{div-eq_of_lt, mul-add-div_right}
 use Rattle.std.proofs.lemmas.Nat.{pow_pos, mod-pow-add, shr_high}
 use Rattle.std.proofs.lemmas.List.{append-nil}

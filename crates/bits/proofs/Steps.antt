@@ -1,11 +1,11 @@
 -- Laws of reading.
-use Rattle.std.proofs.Common.{◌≡◌, ℕ, zero, suc, ◌+◌, ◌-◌, ◌*◌, ◌%◌, ◌^◌, ◌<◌, ◌≤◌, Bool, true, false, cond, ltb, List, [], ◌∷◌, ◌++◌, length, take, drop, Ok, Err, Result, sym, refl, ap, ◌∙◌, add-one, arith, length-drop, length-take}
+use Rattle.std.proofs.Common.{◌≡◌, ℕ, zero, suc, ◌+◌, ◌*◌, ◌%◌, ◌^◌, ◌<◌, ◌≤◌, Bool, true, false, cond, ltb, List, [], ◌∷◌, ◌++◌, length, take, drop, Ok, Err, Result, sym, refl, ap, ◌∙◌, add-one, arith, length-drop}
 use mir.Val.{bool_byte}
 use Rattle.std.proofs.lemmas.Bool.{lt-ltb, le-ltb, ltb-true, ltb-false}
 use Rattle.bits.specs.declared.StoreFault.TheVariants.{End}
 use Rattle.bits.specs.Codes.{number}
 use Rattle.bits.specs.declared.StoreFault.{StoreFault}
-use Rattle.bits.specs.Stores.{Content, Put, Tape, left, Parse, got, refused, ReadAs, Reads, one_bit, one_field}
+use Rattle.bits.specs.Stores.{Content, Put, Tape, left, Parse, got, refused, ReadAs, one_bit, one_field}
 use Rattle.bits.proofs.Codes.{number_push}
 
 next : (i : ℕ) (xs : List Bool) (b : Bool) (ys : List Bool) → drop i xs ≡ b ∷ ys

@@ -10,14 +10,14 @@ pub append-requires : goal.append-requires
 append-requires g c =
     let f = c.ranges.value in
     let e = ap length (simp to_z-of_z at c.in-Single.ensures) in
-    let l = length_fixed c.args.code-length.bits c.in-Single.piece in
+    let l = length_fixed c.args.code_length.bits c.in-Single.piece in
     omega (arith, c.requires)
 
 pub append-requires-in-Escaped : goal.append-requires-in-Escaped
 append-requires-in-Escaped g c =
     let f = c.ranges.value in
     let e = ap length (simp to_z-of_z at c.in-Escaped.ensures) in
-    let l = length_escaped c.args.code-length.bits c.in-Escaped.rest c.in-Escaped.above in
+    let l = length_escaped c.args.code_length.bits c.in-Escaped.rest c.in-Escaped.above in
     omega (arith, c.requires)
 
 pub append-requires-in-Escaped-2 : goal.append-requires-in-Escaped-2
@@ -25,19 +25,19 @@ append-requires-in-Escaped-2 g c =
     let s = g.S.Sink in
     let f = c.ranges.value in
     let e = ap length (simp to_z-of_z at c.in-Escaped.ensures) in
-    let l = length_escaped c.args.code-length.bits c.in-Escaped.rest c.in-Escaped.above in
-    let a = ap length c.append-in-Escaped.ensures.bits ∙ length-append (s.content c.args.sink.now).bits (fixed c.args.code-length.bits c.largest.result) in
-    let n = length_fixed c.args.code-length.bits c.largest.result in
+    let l = length_escaped c.args.code_length.bits c.in-Escaped.rest c.in-Escaped.above in
+    let a = ap length c.append-in-Escaped.ensures.bits ∙ length-append (s.content c.args.sink.now).bits (fixed c.args.code_length.bits c.largest.result) in
+    let n = length_fixed c.args.code_length.bits c.largest.result in
     omega (arith, c.requires, c.append-in-Escaped.ensures.capacity)
 
-pub append-natural-requires : goal.append-natural-requires
-append-natural-requires g c =
+pub append_natural-requires : goal.append_natural-requires
+append_natural-requires g c =
     let s = g.S.Sink in
     let f = c.ranges.value in
     let e = ap length (simp to_z-of_z at c.in-Escaped.ensures) in
-    let l = length_escaped c.args.code-length.bits c.in-Escaped.rest c.in-Escaped.above in
-    let a = ap length c.append-in-Escaped.ensures.bits ∙ length-append (s.content c.args.sink.now).bits (fixed c.args.code-length.bits c.largest.result) in
-    let n = length_fixed c.args.code-length.bits c.largest.result in
+    let l = length_escaped c.args.code_length.bits c.in-Escaped.rest c.in-Escaped.above in
+    let a = ap length c.append-in-Escaped.ensures.bits ∙ length-append (s.content c.args.sink.now).bits (fixed c.args.code_length.bits c.largest.result) in
+    let n = length_fixed c.args.code_length.bits c.largest.result in
     let b = ap length c.append-in-Escaped-2.ensures.bits ∙ length-append (s.content c.append-in-Escaped.new.sink).bits (fixed 1 c.from.result) in
     let m = length_fixed 1 c.from.result in
     omega (arith, c.requires, c.append-in-Escaped.ensures.capacity, c.append-in-Escaped-2.ensures.capacity)
@@ -47,10 +47,10 @@ returns-in-Escaped g c =
     let s = g.S.Sink in
     let f = c.ranges.value in
     let e = (simp to_z-of_z at c.in-Escaped.ensures) in
-    let cl = c.args.code-length.bits in
+    let cl = c.args.code_length.bits in
     let a = c.append-in-Escaped.ensures in
     let b = c.append-in-Escaped-2.ensures in
-    let d = c.append-natural.ensures in
+    let d = c.append_natural.ensures in
     let held = (s.content c.args.sink.now).bits in
     record {
       kept = s.joined _ _ _ a.kept (s.joined _ _ _ b.kept d.kept);

@@ -7,10 +7,10 @@ use Rattle.integers.proofs.integer_length.Goals as goal
 pub returns-in-Single : goal.returns-in-Single
 returns-in-Single c =
     let f = c.ranges.value in
-    sym (length_fixed c.args.code-length.bits c.in-Single.field-0) ∙ ap length (simp to_z-of_z at c.in-Single.ensures)
+    sym (length_fixed c.args.code_length.bits c.in-Single.field-0) ∙ ap length (simp to_z-of_z at c.in-Single.ensures)
 
 pub returns-in-Escaped : goal.returns-in-Escaped
 returns-in-Escaped c =
     let f = c.ranges.value in
-    let cl = c.args.code-length.bits in
-    ap (λ n. cl + 1 + n) c.natural-length.ensures.value ∙ sym (length_escaped cl c.in-Escaped.rest c.in-Escaped.field-0) ∙ ap length (simp to_z-of_z at c.in-Escaped.ensures)
+    let cl = c.args.code_length.bits in
+    ap (λ n. cl + 1 + n) c.natural_length.ensures.value ∙ sym (length_escaped cl c.in-Escaped.rest c.in-Escaped.field-0) ∙ ap length (simp to_z-of_z at c.in-Escaped.ensures)

@@ -6,8 +6,8 @@ use Rattle.integers.proofs.offset.Goals as goal
 
 pub returns-in-Relative : goal.returns-in-Relative
 returns-in-Relative c =
-    let cl = c.args.code-length.bits in
-    let l = c.args.code-length.lawful in
+    let cl = c.args.code_length.bits in
+    let l = c.args.code_length.lawful in
     let few : cl - 1 ≤ 13 = omega (arith, l.1) in
     let hi : 2 ^ (cl - 1) ≤ 2 ^ 13 = pow_mono few in
     let s = one_shl (cl - 1) 32 (omega (arith, l.1)) in

@@ -8,16 +8,16 @@ use Rattle.integers.proofs.shape_of.Goals as goal
 pub returns-then-coded-lt0 : goal.returns-then-coded-lt0
 returns-then-coded-lt0 c =
     let o = c.offset.ensures.value in
-    shape_below c.args.code-length.bits _ (c.args.value +ℤ offset c.args.mode c.args.code-length.bits) (omega (arith, ints))
+    shape_below c.args.code_length.bits _ (c.args.value +ℤ offset c.args.mode c.args.code_length.bits) (omega (arith, ints))
 
 pub returns-then-coded-largest : goal.returns-then-coded-largest
 returns-then-coded-largest c =
     let o = c.offset.ensures.value in
     let l = c.largest-largest.ensures.value in
-    shape_single c.args.code-length.bits _ (c.args.value +ℤ offset c.args.mode c.args.code-length.bits) (omega (arith, ints)) (omega (arith, ints))
+    shape_single c.args.code_length.bits _ (c.args.value +ℤ offset c.args.mode c.args.code_length.bits) (omega (arith, ints)) (omega (arith, ints))
 
 pub returns-else-coded-largest : goal.returns-else-coded-largest
 returns-else-coded-largest c =
     let o = c.offset.ensures.value in
     let l = c.largest-largest.ensures.value in
-    shape_above c.args.code-length.bits _ (c.args.value +ℤ offset c.args.mode c.args.code-length.bits) (omega (arith, ints))
+    shape_above c.args.code_length.bits _ (c.args.value +ℤ offset c.args.mode c.args.code_length.bits) (omega (arith, ints))

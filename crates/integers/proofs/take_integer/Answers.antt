@@ -7,29 +7,29 @@ use Rattle.lengths.proofs.CodingLaws.{part_got, part_refused, part_ok}
 use Rattle.integers.proofs.IntegerLaws.{value_in, value_out}
 use Rattle.integers.proofs.take_integer.Goals as goal
 
-pub returns-then-not-in-range : goal.returns-then-not-in-range
-returns-then-not-in-range g c =
+pub returns-then-not-in_range : goal.returns-then-not-in_range
+returns-then-not-in_range g c =
     let S = g.S.Source in
     let s = S.tape c.args.source.now in
-    let cl = c.args.code-length.bits in
-    let w = c.in-ok-value.field-0 in
-    let h = c.in-ok-value.ensures in
-    let m = part_ok (one_absolute sum_limit cl c.args.field (left s)) s (S.tape c.take-absolute.new.source) w h.part in
+    let cl = c.args.code_length.bits in
+    let w = c.in_ok-value.field-0 in
+    let h = c.in_ok-value.ensures in
+    let m = part_ok (one_absolute sum_limit cl c.args.field (left s)) s (S.tape c.take_absolute.new.source) w h.part in
     let lo = h.small.0 in
     let hi = h.small.1 in
     let o = c.offset.ensures in
     let z = to_z w32 (of_z w32 (to_z w32 (of_z w32 w) -ℤ to_z w32 (of_z w32 c.offset.result))) in
-    part_refused _ _ _ _ (value_out c.args.mode cl c.args.field (left s) w z _ m.0 (omega (arith, ints, o.value)) (sym c.if-not-in-range.ensures)) refl m.1 m.2
+    part_refused _ _ _ _ (value_out c.args.mode cl c.args.field (left s) w z _ m.0 (omega (arith, ints, o.value)) (sym c.if-not-in_range.ensures)) refl m.1 m.2
 
 pub returns : goal.returns
 returns g c =
     let S = g.S.Source in
     let s = S.tape c.args.source.now in
-    let cl = c.args.code-length.bits in
-    let w = c.in-ok-value.field-0 in
-    let h = c.in-ok-value.ensures in
-    let m = part_ok (one_absolute sum_limit cl c.args.field (left s)) s (S.tape c.take-absolute.new.source) w h.part in
+    let cl = c.args.code_length.bits in
+    let w = c.in_ok-value.field-0 in
+    let h = c.in_ok-value.ensures in
+    let m = part_ok (one_absolute sum_limit cl c.args.field (left s)) s (S.tape c.take_absolute.new.source) w h.part in
     let lo = h.small.0 in
     let hi = h.small.1 in
     let o = c.offset.ensures in
-    part_got _ _ _ _ _ (value_in c.args.mode cl c.args.field (left s) w _ _ m.0 (omega (arith, ints, o.value)) (sym c.if-not-in-range.ensures)) refl m.1 refl m.2
+    part_got _ _ _ _ _ (value_in c.args.mode cl c.args.field (left s) w _ _ m.0 (omega (arith, ints, o.value)) (sym c.if-not-in_range.ensures)) refl m.1 refl m.2

@@ -10,18 +10,18 @@ pub append-requires : goal.append-requires
 append-requires g c =
     let s = g.S.Sink in
     let i = c.loop-left.invariant in
-    room_left c.args.code-length.bits c.loop-left.left c.args.number (s.content c.loop-left.sink).bits (s.content c.args.sink.now).bits i.2 i.1 c.requires
+    room_left c.args.code_length.bits c.loop-left.left c.args.number (s.content c.loop-left.sink).bits (s.content c.args.sink.now).bits i.2 i.1 c.requires
 
 pub append-requires-2 : goal.append-requires-2
 append-requires-2 g c =
     let s = g.S.Sink in
     let i = c.loop-left.invariant in
-    room_left c.args.code-length.bits c.loop-left.left c.args.number (s.content c.loop-left.sink).bits (s.content c.args.sink.now).bits i.2 i.1 c.requires
+    room_left c.args.code_length.bits c.loop-left.left c.args.number (s.content c.loop-left.sink).bits (s.content c.args.sink.now).bits i.2 i.1 c.requires
 
 pub loop-left-preserved : goal.loop-left-preserved
 loop-left-preserved g c =
     let s = g.S.Sink in
-    let cl = c.args.code-length.bits in
+    let cl = c.args.code_length.bits in
     let t = largest cl in
     let i = c.loop-left.invariant in
     let a = c.append.ensures in
@@ -32,13 +32,13 @@ loop-left-preserved g c =
       a.capacity ∙ i.1,
       rw (a.bits, is)
           (append_assoc held (fixed cl t) (natural_code cl (c.loop-left.left - t))
-          ∙ ap (λ xs. held ++ xs) (sym (code_more cl c.loop-left.left (largest_pos cl c.args.code-length.lawful.0) le)) ∙ i.2),
+          ∙ ap (λ xs. held ++ xs) (sym (code_more cl c.loop-left.left (largest_pos cl c.args.code_length.lawful.0) le)) ∙ i.2),
     )
 
 pub returns : goal.returns
 returns g c =
     let s = g.S.Sink in
-    let cl = c.args.code-length.bits in
+    let cl = c.args.code_length.bits in
     let i = c.loop-left.invariant in
     let a = c.append-2.ensures in
     let is = c.largest-largest.ensures.value in

@@ -5,12 +5,12 @@ use Rattle.naturals.proofs.natural_length.Goals as goal
 pub overflow-mul-result : goal.overflow-mul-result
 overflow-mul-result c =
     rw c.largest.ensures.value
-    (record { fits = (let l = c.args.code-length.lawful.1 in omega (arith, natural_near c.args.code-length.bits c.args.number)) })
+    (record { fits = (let l = c.args.code_length.lawful.1 in omega (arith, natural_near c.args.code_length.bits c.args.number)) })
 
 pub returns : goal.returns
 returns c =
     rw c.largest.ensures.value
     (record {
-      value = sym (length_natural c.args.code-length.bits c.args.number);
-      near = (let l = c.args.code-length.lawful.1 in omega (arith, natural_near c.args.code-length.bits c.args.number));
+      value = sym (length_natural c.args.code_length.bits c.args.number);
+      near = (let l = c.args.code_length.lawful.1 in omega (arith, natural_near c.args.code_length.bits c.args.number));
     })

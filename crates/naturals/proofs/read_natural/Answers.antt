@@ -7,11 +7,11 @@ use Rattle.naturals.proofs.read_natural.Goals as goal
 pub returns : goal.returns
 returns g c =
     let S = g.S.Source in
-    let cl = c.args.code-length.bits in
-    let one = c.args.code-length.lawful.0 in
-    let reads = completed (one_natural cl) (S.tape c.args.source.now) (S.tape c.take-pieces-answer.new.source) (S.tape c.or-back.new.source)
-    c.position-start.result c.take-pieces-answer.result c.or-back.result
-    c.position-start.ensures c.take-pieces-answer.ensures.part c.or-back.ensures.answer c.or-back.ensures.tape (S.within c.or-back.new.source) in
+    let cl = c.args.code_length.bits in
+    let one = c.args.code_length.lawful.0 in
+    let reads = completed (one_natural cl) (S.tape c.args.source.now) (S.tape c.take_pieces-answer.new.source) (S.tape c.or_back.new.source)
+    c.position-start.result c.take_pieces-answer.result c.or_back.result
+    c.position-start.ensures c.take_pieces-answer.ensures.part c.or_back.ensures.answer c.or_back.ensures.tape (S.within c.or_back.new.source) in
     record {
       reads = reads;
       faithful = faithful (one_natural cl) (natural_code cl) (λ n. n ≤ sum_limit)

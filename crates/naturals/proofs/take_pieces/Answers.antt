@@ -8,56 +8,56 @@ use Rattle.lengths.proofs.CodingLaws.{took, missed, part_got, part_refused}
 use Rattle.naturals.proofs.NaturalLaws.{step_short, step_big, step_more, step_done}
 use Rattle.naturals.proofs.take_pieces.Goals as goal
 
-pub returns-in-err-piece : goal.returns-in-err-piece
-returns-in-err-piece g c =
+pub returns-in_err-piece : goal.returns-in_err-piece
+returns-in_err-piece g c =
     let S = g.S.Source in
     let t = S.tape c.loop-piece.source in
-    let cl = c.args.code-length.bits in
-    let p = err_from_is_err_and c.from-residual.result c.from-residual.ensures.1 in
-    let m = missed cl c.args.field t (S.tape c.take-part.new.source) _ c.in-err-piece.ensures in
+    let cl = c.args.code_length.bits in
+    let p = err_from_is_err_and c.from_residual.result c.from_residual.ensures.1 in
+    let m = missed cl c.args.field t (S.tape c.take_part.new.source) _ c.in_err-piece.ensures in
     let i = c.loop-piece.invariant in
-    let e = i.3 ∙ step_short sum_limit c.args.field cl c.loop-piece.sum (left t) c.args.code-length.lawful.0 m.0 in
+    let e = i.3 ∙ step_short sum_limit c.args.field cl c.loop-piece.sum (left t) c.args.code_length.lawful.0 m.0 in
     rw (p.1, p.2, m.1)
     (record { part = part_refused _ _ _ _ e refl (ap (λ z. z.bits) m.2 ∙ i.1) (let q = ap (λ z. z.position) m.2 in omega (arith, i.2)); small = tt })
 
 pub overflow-add-sum : goal.overflow-add-sum
 overflow-add-sum g c =
     let S = g.S.Source in
-    let k = took c.args.code-length.bits c.args.field (S.tape c.loop-piece.source) (S.tape c.take-part.new.source) c.in-ok-piece.piece c.args.code-length.lawful.1 (S.within c.loop-piece.source) c.in-ok-piece.ensures in
+    let k = took c.args.code_length.bits c.args.field (S.tape c.loop-piece.source) (S.tape c.take_part.new.source) c.in_ok-piece.piece c.args.code_length.lawful.1 (S.within c.loop-piece.source) c.in_ok-piece.ensures in
     record { fits = omega (arith, k.small, c.loop-piece.invariant.0) }
 
 pub returns-then-sum-piece-gt-SUM-LIMIT : goal.returns-then-sum-piece-gt-SUM-LIMIT
 returns-then-sum-piece-gt-SUM-LIMIT g c =
     let S = g.S.Source in
     let t = S.tape c.loop-piece.source in
-    let cl = c.args.code-length.bits in
-    let k = took cl c.args.field t (S.tape c.take-part.new.source) c.in-ok-piece.piece c.args.code-length.lawful.1 (S.within c.loop-piece.source) c.in-ok-piece.ensures in
+    let cl = c.args.code_length.bits in
+    let k = took cl c.args.field t (S.tape c.take_part.new.source) c.in_ok-piece.piece c.args.code_length.lawful.1 (S.within c.loop-piece.source) c.in_ok-piece.ensures in
     let i = c.loop-piece.invariant in
     let is = k.value in
     let past : sum_limit < c.loop-piece.sum + number (take cl (left t)) = omega arith in
-    let e = i.3 ∙ step_big sum_limit c.args.field cl c.loop-piece.sum (left t) c.args.code-length.lawful.0 k.enough past in
+    let e = i.3 ∙ step_big sum_limit c.args.field cl c.loop-piece.sum (left t) c.args.code_length.lawful.0 k.enough past in
     record { part = part_refused _ _ _ _ e refl (k.same ∙ i.1) (omega (arith, k.moved, i.2)); small = tt }
 
 pub loop-piece-preserved : goal.loop-piece-preserved
 loop-piece-preserved g c =
     let S = g.S.Source in
     let t = S.tape c.loop-piece.source in
-    let cl = c.args.code-length.bits in
-    let k = took cl c.args.field t (S.tape c.take-part.new.source) c.in-ok-piece.piece c.args.code-length.lawful.1 (S.within c.loop-piece.source) c.in-ok-piece.ensures in
+    let cl = c.args.code_length.bits in
+    let k = took cl c.args.field t (S.tape c.take_part.new.source) c.in_ok-piece.piece c.args.code_length.lawful.1 (S.within c.loop-piece.source) c.in_ok-piece.ensures in
     let i = c.loop-piece.invariant in
     let is = k.value in
     let top = c.largest-largest.ensures.value in
-    let e = i.3 ∙ step_more sum_limit c.args.field cl c.loop-piece.sum (left t) c.args.code-length.lawful.0 k.enough (omega arith) (omega arith) in
+    let e = i.3 ∙ step_more sum_limit c.args.field cl c.loop-piece.sum (left t) c.args.code_length.lawful.0 k.enough (omega arith) (omega arith) in
     (omega arith, k.same ∙ i.1, omega (arith, k.moved, i.2), rw (is, k.rest) e)
 
 pub returns : goal.returns
 returns g c =
     let S = g.S.Source in
     let t = S.tape c.loop-piece.source in
-    let cl = c.args.code-length.bits in
-    let k = took cl c.args.field t (S.tape c.take-part.new.source) c.in-ok-piece.piece c.args.code-length.lawful.1 (S.within c.loop-piece.source) c.in-ok-piece.ensures in
+    let cl = c.args.code_length.bits in
+    let k = took cl c.args.field t (S.tape c.take_part.new.source) c.in_ok-piece.piece c.args.code_length.lawful.1 (S.within c.loop-piece.source) c.in_ok-piece.ensures in
     let i = c.loop-piece.invariant in
     let is = k.value in
     let top = c.largest-largest.ensures.value in
-    let e = i.3 ∙ step_done sum_limit c.args.field cl c.loop-piece.sum (left t) c.args.code-length.lawful.0 k.enough (omega arith) (omega arith) in
+    let e = i.3 ∙ step_done sum_limit c.args.field cl c.loop-piece.sum (left t) c.args.code_length.lawful.0 k.enough (omega arith) (omega arith) in
     record { part = part_got _ _ _ _ _ e (ap (λ n. Ok (c.loop-piece.sum + n)) is) (k.same ∙ i.1) k.rest (omega (arith, k.moved, i.2)); small = omega arith }

@@ -8,7 +8,7 @@ invariant-loop-piece g l =
     let s = g.S.Source.tape l.initial.source in
     let t = g.S.Source.tape l.source in
     (l.sum ≤ sum_limit) × (t.bits ≡ s.bits) × (s.position ≤ t.position)
-    × (pieces sum_limit l.code-length.bits l.field 0 0 (left s) ≡ pieces sum_limit l.code-length.bits l.field l.sum 0 (left t))
+    × (pieces sum_limit l.code_length.bits l.field 0 0 (left s) ≡ pieces sum_limit l.code_length.bits l.field l.sum 0 (left t))
 
 abbrev pub decreases-loop-piece : goal.decreases-loop-piece
 decreases-loop-piece g l = 2097153 - l.sum

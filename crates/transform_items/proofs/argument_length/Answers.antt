@@ -8,12 +8,12 @@ use Rattle.transform_items.specs.ArgumentLaws.{argument_short}
 use Rattle.transform_items.proofs.argument_length.Goals as goal
 
 -- both parts have the length of the argument's code
-whole : (c : goal.After-integer-length) → c.length.result + c.integer-length.result ≡ length (argument_code c.args.default.bits c.args.argument)
+whole : (c : goal.After-integer_length) → c.length.result + c.integer_length.result ≡ length (argument_code c.args.default.bits c.args.argument)
 whole c =
     let a = c.args.argument in
     let f : SFits w32 a.value = search rules in
-    let one = (simp c.field-of-field.ensures at c.length.ensures) in
-    let two = (simp (to_z-of_z, c.chosen.ensures, c.field-of-field.ensures) at c.integer-length.ensures) in
+    let one = (simp c.field_of-field.ensures at c.length.ensures) in
+    let two = (simp (to_z-of_z, c.chosen.ensures, c.field_of-field.ensures) at c.integer_length.ensures) in
     omega (arith, length-append (field_code a.length) (integer_code Absolute (chosen a.length c.args.default.bits) a.value))
 
 pub overflow-add-result : goal.overflow-add-result

@@ -1,4 +1,4 @@
-use Rattle.std.proofs.Common.{◌≡◌, ◌%◌, ◌^◌, ◌≤◌, length, take, drop, Ok, Err, sym, refl, ap, ◌∙◌, arith, length-drop, rules}
+use Rattle.std.proofs.Common.{◌≡◌, ◌%◌, ◌^◌, ◌≤◌, length, take, drop, Ok, Err, sym, refl, ap, ◌∙◌, arith, length-drop}
 use Rattle.bits.specs.Codes.{number}
 use Rattle.bits.specs.declared.StoreFault.TheVariants.{End}
 use Rattle.bits.specs.Stores.{left}
@@ -18,23 +18,23 @@ loop-k-preserved g c =
     let s = S.tape c.args.self.now in
     let t = S.tape c.loop-k.self in
     let i = c.loop-k.invariant in
-    let took = read_ok _ t (S.tape c.take.new.self) c.in-ok-bit.bit c.in-ok-bit.ensures in
-    let is = bit_got t.position (left t) c.in-ok-bit.bit _ took.0 in
-    let n = next_bit c.loop-k.-k (left s) c.in-ok-bit.bit _ (sym i.1 ∙ is) in
-    let b = bit_value c.in-ok-bit.bit in
+    let took = read_ok _ t (S.tape c.take.new.self) c.in_ok-bit.bit c.in_ok-bit.ensures in
+    let is = bit_got t.position (left t) c.in_ok-bit.bit _ took.0 in
+    let n = next_bit c.loop-k._k (left s) c.in_ok-bit.bit _ (sym i.1 ∙ is) in
+    let b = bit_value c.in_ok-bit.bit in
     let f = c.from.ensures in
     (took.1 ∙ i.0, n.1, n.0, omega (arith, i.3, n.2))
 
-pub returns-in-err-bit : goal.returns-in-err-bit
-returns-in-err-bit g c =
+pub returns-in_err-bit : goal.returns-in_err-bit
+returns-in_err-bit g c =
     let S = g.Self.Source in
     let s = S.tape c.args.self.now in
     let t = S.tape c.loop-k.self in
     let i = c.loop-k.invariant in
-    let none = read_err _ t (S.tape c.take.new.self) _ c.in-err-bit.ensures in
+    let none = read_err _ t (S.tape c.take.new.self) _ c.in_err-bit.ensures in
     let is = bit_refused t.position (left t) _ none.0 in
     let l : length (left t) ≡ 0 = ap length is.0 in
-    let m : length (left t) ≡ _ = ap length i.1 ∙ length-drop c.loop-k.-k (left s) in
+    let m : length (left t) ≡ _ = ap length i.1 ∙ length-drop c.loop-k._k (left s) in
     let few = length-drop s.position s.bits in
     absurd (omega arith)
 
@@ -43,6 +43,6 @@ returns g c =
     let S = g.Self.Source in
     let s = S.tape c.args.self.now in
     let i = c.loop-k.invariant in
-    let e : c.loop-k.-k ≡ c.args.width = omega arith in
-    let h : c.loop-k.-k ≤ length (left s) = i.2 in
+    let e : c.loop-k._k ≡ c.args.width = omega arith in
+    let h : c.loop-k._k ≤ length (left s) = i.2 in
     read_got _ _ _ _ _ (field_got c.args.width s.position (left s) (omega arith)) (ap Ok (i.3 ∙ ap (λ n. number (take n (left s)) % 2 ^ 32) e)) i.0 (i.1 ∙ ap (λ n. drop n (left s)) e) (S.within c.loop-k.self)

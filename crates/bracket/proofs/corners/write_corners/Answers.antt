@@ -5,16 +5,16 @@ use Rattle.bracket.specs.Outline.{corners_bits}
 use Rattle.bracket.proofs.Outlines.{corner_more}
 use Rattle.bracket.proofs.corners.write_corners.Goals as goal
 
-pub returns-in-err-write-corner : goal.returns-in-err-write-corner
-returns-in-err-write-corner g c =
-    let p = err_from_is_err_and c.from-residual.result c.from-residual.ensures.1 in
-    let b = c.in-err-write-corner.ensures in
+pub returns-in_err-write_corner : goal.returns-in_err-write_corner
+returns-in_err-write_corner g c =
+    let p = err_from_is_err_and c.from_residual.result c.from_residual.ensures.1 in
+    let b = c.in_err-write_corner.ensures in
     rw p.1 (record { kept = g.S.Sink.joined _ _ _ c.loop-i.invariant.0 b.kept; bits = tt })
 
 pub loop-i-preserved : goal.loop-i-preserved
 loop-i-preserved g c =
     let s = g.S.Sink in
-    let b = c.in-ok-write-corner.ensures in (
+    let b = c.in_ok-write_corner.ensures in (
       s.joined _ _ _ c.loop-i.invariant.0 b.kept,
       corner_more c.args.defaults.now.absolute.bits c.args.defaults.now.relative.bits c.loop-i.i c.args.corners.now _ (s.content c.loop-i.sink).bits c.loop-i-test.true b.bits c.loop-i.invariant.1,
     )

@@ -15,4 +15,4 @@ invariant-of-result-2 c =
     let linked : Linked bytes c.args.first (c.in-Ok.capacity / 240) = rw count checked.1.1.0 in
     let fits : c.args.held ≤ 240 * (c.in-Ok.capacity / 240) = rw count checked.1.3 in
     let less = few bytes c.args.first (c.in-Ok.capacity / 240) (omega arith) linked in
-    (linked, (fits, (c.block-at-block.ensures, (omega arith, ((λ _. size), tt)))))
+    (linked, (fits, (c.block_at-block.ensures, (omega arith, ((λ _. size), tt)))))

@@ -16,9 +16,9 @@ pub invariant-of-self : goal.invariant-of-self
 invariant-of-self c =
     let s = c.args.self.now in
     let bytes = s.bytes.now in
-    let r = c.with-bit.result in
+    let r = c.with_bit.result in
     let b = c.args.bit in
-    let sets = c.with-bit.ensures in
+    let sets = c.with_bit.ensures in
     let room : s.held < 240 * s.count = omega arith in
     let place = 256 * s.block + (16 + s.held % 240) in
     let next : c.if-place-eq239.next ≡ met bytes s.first ((s.held + 1) / 240) =
@@ -36,9 +36,9 @@ pub returns : goal.returns
 returns c =
     let s = c.args.self.now in
     let bytes = s.bytes.now in
-    let r = c.with-bit.result in
+    let r = c.with_bit.result in
     let b = c.args.bit in
-    let sets = c.with-bit.ensures in
+    let sets = c.with_bit.ensures in
     let room : s.held < 240 * s.count = omega arith in
     record {
       kept = chain_kept bytes s.first s.held s.block s.here s.count r b s.linked room sets s.bytes.name;

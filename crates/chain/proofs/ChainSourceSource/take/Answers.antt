@@ -26,5 +26,5 @@ pub returns : goal.returns
 returns c =
     let s = c.args.self.now in
     let bytes = s.bytes.now in
-    take_next (spot bytes s.first) bytes s.position s.end c.has-bit.result (omega arith)
-    (c.has-bit.ensures ∙ bit_here bytes s.first s.position s.block s.here)
+    take_next (spot bytes s.first) bytes s.position s.end c.has_bit.result (omega arith)
+    (c.has_bit.ensures ∙ bit_here bytes s.first s.position s.block s.here)

@@ -11,9 +11,9 @@ pub overflow-cast-result : goal.overflow-cast-result
 overflow-cast-result g c =
     let S = g.S.Source in
     let s = S.tape c.args.source.now in
-    let t = S.tape c.take-part.new.source in
+    let t = S.tape c.take_part.new.source in
     let w = c.args.width in
-    let k = read_ok (one_field w c.args.field (left s)) s t c.in-ok-value.value c.in-ok-value.ensures in
-    let x = (number_laws w c.requires).exact c.args.field c.in-ok-value.value (left s) (left t) (ap (carried (λ f. Number (Store f))) k.0) in
+    let k = read_ok (one_field w c.args.field (left s)) s t c.in_ok-value.value c.in_ok-value.ensures in
+    let x = (number_laws w c.requires).exact c.args.field c.in_ok-value.value (left s) (left t) (ap (carried (λ f. Number (Store f))) k.0) in
     let m : 2 ^ w ≤ 2 ^ 8 = pow_mono c.requires in
     omega (arith, x.0)

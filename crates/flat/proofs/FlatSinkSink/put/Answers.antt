@@ -12,9 +12,9 @@ pub returns : goal.returns
 returns c =
     let s = c.args.self.now in
     let bytes = s.bytes.now in
-    let r = c.with-bit.result in
+    let r = c.with_bit.result in
     let b = c.args.bit in
-    let sets = c.with-bit.ensures in
+    let sets = c.with_bit.ensures in
     record {
       kept = stored_kept bytes s.held r b (omega arith) sets (λ i. i) s.held refl (λ j l e. omega arith) s.bytes.name;
       put = put_more (λ i. i) bytes s.held s.capacity b _ (omega arith) (stored_put bytes s.held r b (omega arith) sets (λ i. i) s.held refl (λ j l e. omega arith));

@@ -3,8 +3,8 @@ use Rattle.items.specs.Places.{places_of}
 use Rattle.lists.proofs.Filling.{fill_item, fill_on, fill_done}
 use Rattle.lists.proofs.reading.fill.Goals as goal
 
-pub next-item-item-requires : goal.next-item-item-requires
-next-item-item-requires g c = fill_item c.loop-index.invariant.0 c.loop-index-test.true
+pub next_item-item-requires : goal.next_item-item-requires
+next_item-item-requires g c = fill_item c.loop-index.invariant.0 c.loop-index-test.true
 
 pub loop-index-preserved : goal.loop-index-preserved
 loop-index-preserved g c =
@@ -13,8 +13,8 @@ loop-index-preserved g c =
     let n = i.0.size in
     let p = c.requires.0 in
     let room : c.loop-index.index < length (places_of c.loop-index.list).all = omega arith in
-    let on = fill_on (g.met.K.ItemKind.exact c.args.configuration.now) i.0 c.loop-index-test.true room (S.within c.loop-index.source) (S.tape c.next-item-item.new.source)
-    (S.within c.next-item-item.new.source) c.next-item-item.result c.next-item-item.ensures in
+    let on = fill_on (g.met.K.ItemKind.exact c.args.configuration.now) i.0 c.loop-index-test.true room (S.within c.loop-index.source) (S.tape c.next_item-item.new.source)
+    (S.within c.next_item-item.new.source) c.next_item-item.result c.next_item-item.ensures in
     (rw (ap (λ p. p.all) c.store.ensures.stored) on, c.store.ensures.lent ∙ i.1)
 
 pub returns : goal.returns

@@ -27,8 +27,8 @@ loop-item-preserved g c =
       rw a.bits (append_assoc held (k.code c.item-item.result) (list_bits k (drop (c.loop-item.item-index + 1) c.args.items.now)) ∙ ap (λ xs. held ++ xs) (sym (bits_here k h)) ∙ i.3),
     )
 
-pub append-end-requires : goal.append-end-requires
-append-end-requires g c =
+pub append_end-requires : goal.append_end-requires
+append_end-requires g c =
     let k = g.K.ItemKind.kind c.args.configuration.now in
     let held = (g.S.Sink.content c.loop-item.sink).bits in
     let i = c.loop-item.invariant in
@@ -41,7 +41,7 @@ returns g c =
     let S = g.S.Sink in
     let k = g.K.ItemKind.kind c.args.configuration.now in
     let i = c.loop-item.invariant in
-    let a = c.append-end.ensures in
+    let a = c.append_end.ensures in
     let e = at_drop_all (list_bits k) c.args.items.now c.loop-item.item-index c.loop-item-test.false in
     record {
       kept = S.joined _ _ _ i.0 a.kept;

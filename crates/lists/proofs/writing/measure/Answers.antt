@@ -9,27 +9,27 @@ use Rattle.lists.proofs.writing.measure.Goals as goal
 pub loop-index-init : goal.loop-index-init
 loop-index-init g c =
     let k = g.K.ItemKind.kind c.args.configuration.now in
-    let e = c.end-length-total.ensures.value in
-    let b = c.end-length-total.ensures.bound in
+    let e = c.end_length-total.ensures.value in
+    let b = c.end_length-total.ensures.bound in
     (c.requires.1, refl, omega (arith, length-append (items_bits k c.args.items.now) k.ending), omega arith)
 
-pub returns-then-not-is-available : goal.returns-then-not-is-available
-returns-then-not-is-available g c =
+pub returns-then-not-is_available : goal.returns-then-not-is_available
+returns-then-not-is_available g c =
     let K = g.K.ItemKind in
     let k = K.kind c.args.configuration.now in
     let r = c.index-items-index.result in
     let h = here c.args.items.now c.loop-index.index r c.loop-index-test.true c.index-items-index.is in
-    let no = asked_no h K.list (λ x. item_asked (k.asked x)) Unavailable (available_no (k.asked r) c.if-not-is-available.ensures) in
-    record { value = rw (c.loop-index.invariant.1 ∙ no) (ap Err c.at-item.ensures); bound = tt }
+    let no = asked_no h K.list (λ x. item_asked (k.asked x)) Unavailable (available_no (k.asked r) c.if-not-is_available.ensures) in
+    record { value = rw (c.loop-index.invariant.1 ∙ no) (ap Err c.at_item.ensures); bound = tt }
 
-pub returns-then-not-values-lawful : goal.returns-then-not-values-lawful
-returns-then-not-values-lawful g c =
+pub returns-then-not-values_lawful : goal.returns-then-not-values_lawful
+returns-then-not-values_lawful g c =
     let K = g.K.ItemKind in
     let k = K.kind c.args.configuration.now in
     let r = c.index-items-index.result in
     let h = here c.args.items.now c.loop-index.index r c.loop-index-test.true c.index-items-index.is in
-    let no = asked_no h K.list (λ x. item_asked (k.asked x)) Value (values_no (k.asked r) c.if-not-is-available.ensures c.if-not-values-lawful.ensures) in
-    record { value = rw (c.loop-index.invariant.1 ∙ no) (ap Err c.at-item-then-not-values-lawful.ensures); bound = tt }
+    let no = asked_no h K.list (λ x. item_asked (k.asked x)) Value (values_no (k.asked r) c.if-not-is_available.ensures c.if-not-values_lawful.ensures) in
+    record { value = rw (c.loop-index.invariant.1 ∙ no) (ap Err c.at_item-then-not-values_lawful.ensures); bound = tt }
 
 pub length-total-requires : goal.length-total-requires
 length-total-requires g c =
@@ -37,7 +37,7 @@ length-total-requires g c =
     let k = K.kind c.args.configuration.now in
     let r = c.index-items-index.result in
     let h = here c.args.items.now c.loop-index.index r c.loop-index-test.true c.index-items-index.is in
-    lawful_if (k.asked r) (asked_yes h K.list (λ x. lengths_asked (k.asked x)) c.loop-index.invariant.0) (item_yes (k.asked r) c.if-not-is-available.ensures c.if-not-values-lawful.ensures)
+    lawful_if (k.asked r) (asked_yes h K.list (λ x. lengths_asked (k.asked x)) c.loop-index.invariant.0) (item_yes (k.asked r) c.if-not-is_available.ensures c.if-not-values_lawful.ensures)
 
 pub loop-index-preserved : goal.loop-index-preserved
 loop-index-preserved g c =
@@ -51,7 +51,7 @@ loop-index-preserved g c =
     let n = c.length-total.ensures.value in
     let b = c.length-total.ensures.bound in (
       sym (asked_on h K.list (λ x. lengths_asked (k.asked x)) l) ∙ i.0,
-      i.1 ∙ asked_on h K.list (λ x. item_asked (k.asked x)) (item_yes (k.asked r) c.if-not-is-available.ensures c.if-not-values-lawful.ensures),
+      i.1 ∙ asked_on h K.list (λ x. item_asked (k.asked x)) (item_yes (k.asked r) c.if-not-is_available.ensures c.if-not-values_lawful.ensures),
       omega (arith, i.2),
       omega (arith, i.3),
     )

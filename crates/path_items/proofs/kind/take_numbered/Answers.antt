@@ -14,17 +14,17 @@ use Rattle.path_items.proofs.Reading.{turn_more, turn_stop, turn_end}
 use Rattle.path_items.specs.ValueLaws.{value_exact}
 use Rattle.path_items.proofs.kind.take_numbered.Goals as goal
 
-pub returns-in-err-value : goal.returns-in-err-value
-returns-in-err-value g c =
+pub returns-in_err-value : goal.returns-in_err-value
+returns-in_err-value g c =
     let S = g.S.Source in
     let w = c.args.agreed.now in
     let n = c.args.number in
     let e = c.row-entry.result in
     let s = S.tape c.args.source.now in
     let i = c.loop-index.invariant in
-    let p = err_from_is_err_and c.from-residual.result c.from-residual.ensures.1 in
+    let p = err_from_is_err_and c.from_residual.result c.from_residual.ensures.1 in
     let k = turn_stop (one_value w.configuration.fields w.defaults e) e.1 s c.loop-index.index i.1.0 (S.tape c.loop-index.source) i.1.3
-    c.loop-index-test.true (S.tape c.read-value.new.source) _ c.in-err-value.ensures in
+    c.loop-index-test.true (S.tape c.read_value.new.source) _ c.in_err-value.ensures in
     let x = numbered_as w.configuration.fields w.defaults n s.position (left s) e c.if-number-eq-DONE.false c.row-entry.ensures ∙ ap (mapped (λ vs. Some (command n vs))) k.0 in
     let q = ap (λ z. z.position) k.1 in
     rw (p.1, p.2) (part_refused _ _ _ _ x refl (ap (λ z. z.bits) k.1 ∙ i.0.same) (omega (arith, i.0.moved)))
@@ -38,18 +38,18 @@ loop-index-preserved g c =
     let w = c.args.agreed.now in
     let e = c.row-entry.result in
     let j = c.loop-index.index in
-    let v = c.in-ok-value.value in
+    let v = c.in_ok-value.value in
     let s = S.tape c.args.source.now in
     let t = S.tape c.loop-index.source in
-    let u = S.tape c.read-value.new.source in
+    let u = S.tape c.read_value.new.source in
     let field = one_value w.configuration.fields w.defaults e in
     let few = row_small e c.args.number c.row-entry.ensures in
     let f : SFits w32 v = search rules in
     let i = c.loop-index.invariant in
-    let h = c.in-ok-value.ensures in
+    let h = c.in_ok-value.ensures in
     let x = value_exact w.configuration.fields w.defaults e w.configuration.lawful j t.position v (left t) (left u) (read_ok (field j t.position (left t)) t u v h).0 in
     let k = turn_more field e.1 s j i.1.0 t i.1.3 c.loop-index-test.true u v (value_code w.configuration.fields w.defaults e j v)
-    (S.within c.loop-index.source) (S.within c.read-value.new.source) x.1 h in (
+    (S.within c.loop-index.source) (S.within c.read_value.new.source) x.1 h in (
       went_on s t u i.0 k.1,
       (
         i.1.0 ++ v ∷ [],

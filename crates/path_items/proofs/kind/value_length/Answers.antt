@@ -8,9 +8,9 @@ pub returns : goal.returns
 returns c =
     let f = c.ranges.value in
     let w = c.args.agreed.now in
-    let e : c.integer-length.result ≡ length (value_code w.configuration.fields w.defaults c.args.entry c.args.index c.args.value) =
-    (simp to_z-of_z at c.integer-length.ensures)
-    ∙ ap length (plain_code w.configuration.fields w.defaults c.args.entry c.args.index c.args.value c.mode-of-mode.result c.length-for.result.bits
-    (sym c.if-is-flag.ensures) c.mode-of-mode.ensures c.length-for.ensures) in
+    let e : c.integer_length.result ≡ length (value_code w.configuration.fields w.defaults c.args.entry c.args.index c.args.value) =
+    (simp to_z-of_z at c.integer_length.ensures)
+    ∙ ap length (plain_code w.configuration.fields w.defaults c.args.entry c.args.index c.args.value c.mode_of-mode.result c.length_for.result.bits
+    (sym c.if-is_flag.ensures) c.mode_of-mode.ensures c.length_for.ensures) in
     let s = value_size w.configuration.fields w.defaults c.args.entry w.configuration.lawful c.args.index c.args.value c.requires in
     record { value = e; bound = omega arith }

@@ -5,39 +5,39 @@ use Rattle.transform_items.specs.Transforms.{argument_code, mark_code, transform
 use Rattle.transform_items.proofs.Writing.{rest_from, mark_length, sound_at, rest_more, rest_none, owes_all, owes_less, owes_none, owes_on, owes_room, word_written, first_written, after_mark}
 use Rattle.transform_items.proofs.TransformsItemKind.append.Goals as goal
 
-pub append-to-requires : goal.append-to-requires
-append-to-requires g c =
+pub append_to-requires : goal.append_to-requires
+append_to-requires g c =
     let s = g.S.Sink.content c.args.sink.now in
     let code = transform_code c.args.configuration.now.absolute.bits c.args.item.now in
     simp c.words.ensures (owes_room s s (word 7 c.args.item.now.kind) _ code (owes_all s code) c.requires.1)
 
-pub append-argument-requires : goal.append-argument-requires
-append-argument-requires g c =
+pub append_argument-requires : goal.append_argument-requires
+append_argument-requires g c =
     let s = g.S.Sink.content c.args.sink.now in
-    let t = g.S.Sink.content c.append-to.new.sink in
+    let t = g.S.Sink.content c.append_to.new.sink in
     let r = c.args.item.now in
     let d = c.args.configuration.now.absolute.bits in
-    let a = c.append-to.ensures in
+    let a = c.append_to.ensures in
     let owed = word_written d r c.words.ensures c.six-arguments.ensures s t a.capacity a.bits in
     simp c.six-arguments.ensures ((sound_at r c.requires.0 0 (omega arith)).0, owes_room s t (argument_code d (get_or (six_of r) 0 unused)) _ (transform_code d r) owed c.requires.1)
 
 pub append-requires : goal.append-requires
 append-requires g c =
     let s = g.S.Sink.content c.args.sink.now in
-    let t = g.S.Sink.content c.append-to.new.sink in
-    let u = g.S.Sink.content c.append-argument.new.sink in
+    let t = g.S.Sink.content c.append_to.new.sink in
+    let u = g.S.Sink.content c.append_argument.new.sink in
     let r = c.args.item.now in
     let d = c.args.configuration.now.absolute.bits in
-    let a = c.append-to.ensures in
-    let b = c.append-argument.ensures in
+    let a = c.append_to.ensures in
+    let b = c.append_argument.ensures in
     let owed = first_written d r c.words.ensures c.six-arguments.ensures s t a.capacity a.bits u b.capacity b.bits in
     omega (arith, mark_length r.kind r.mark c.from.ensures c.marked.ensures, owes_room s u (mark_code r.kind r.mark) _ (transform_code d r) owed c.requires.1)
 
-pub append-argument-requires-in-loop-index : goal.append-argument-requires-in-loop-index
-append-argument-requires-in-loop-index g c =
+pub append_argument-requires-in-loop-index : goal.append_argument-requires-in-loop-index
+append_argument-requires-in-loop-index g c =
     let s = g.S.Sink.content c.args.sink.now in
-    let t = g.S.Sink.content c.append-to.new.sink in
-    let u = g.S.Sink.content c.append-argument.new.sink in
+    let t = g.S.Sink.content c.append_to.new.sink in
+    let u = g.S.Sink.content c.append_argument.new.sink in
     let v = g.S.Sink.content c.append.new.sink in
     let w = g.S.Sink.content c.loop-index.sink in
     let r = c.args.item.now in
@@ -45,8 +45,8 @@ append-argument-requires-in-loop-index g c =
     let i = c.loop-index.index in
     let l = c.following-index-end.ensures.value in
     let lt : i < following r.kind r.mark = omega arith in
-    let a = c.append-to.ensures in
-    let b = c.append-argument.ensures in
+    let a = c.append_to.ensures in
+    let b = c.append_argument.ensures in
     let e = c.append.ensures in
     let owed = after_mark d r c.words.ensures c.six-arguments.ensures s t a.capacity a.bits u b.capacity b.bits c.from.ensures c.marked.ensures v e.capacity e.bits in
     let more = (rw (rest_more r c.requires.0 d i lt) at (owes_on s v w _ _ _ owed c.loop-index.invariant.1)) in
@@ -64,7 +64,7 @@ loop-index-preserved g c =
     let l = c.following-index-end.ensures.value in
     let lt : i < following r.kind r.mark = omega arith in
     let inv = c.loop-index.invariant in
-    let a = c.append-argument-in-loop-index.ensures in
+    let a = c.append_argument-in-loop-index.ensures in
     let held = s.content c.loop-index.sink in
     let one = argument_code d (get_or (six_of r) (i + 1) unused) in
     let bits = a.bits ∙ ap (λ xs. held.bits ++ argument_code d (get_or xs (i + 1) unused)) c.six-arguments.ensures in
@@ -73,15 +73,15 @@ loop-index-preserved g c =
 pub returns : goal.returns
 returns g c =
     let s = g.S.Sink.content c.args.sink.now in
-    let t = g.S.Sink.content c.append-to.new.sink in
-    let u = g.S.Sink.content c.append-argument.new.sink in
+    let t = g.S.Sink.content c.append_to.new.sink in
+    let u = g.S.Sink.content c.append_argument.new.sink in
     let v = g.S.Sink.content c.append.new.sink in
     let w = g.S.Sink.content c.loop-index.sink in
     let r = c.args.item.now in
     let d = c.args.configuration.now.absolute.bits in
     let l = c.following-index-end.ensures.value in
-    let a = c.append-to.ensures in
-    let b = c.append-argument.ensures in
+    let a = c.append_to.ensures in
+    let b = c.append_argument.ensures in
     let e = c.append.ensures in
     let inv = c.loop-index.invariant in
     let owed = after_mark d r c.words.ensures c.six-arguments.ensures s t a.capacity a.bits u b.capacity b.bits c.from.ensures c.marked.ensures v e.capacity e.bits in

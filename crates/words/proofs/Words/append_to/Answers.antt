@@ -5,18 +5,18 @@ use Rattle.words.proofs.Words.append_to.Goals as goal
 pub append-requires : goal.append-requires
 append-requires g c =
     let w = c.args.self in
-    let e = length_short w.count w.width c.short-words-short.result w.short c.short-words-short.ensures.value c.args.number c.if-number-short.true in
+    let e = length_short w.count w.width c.short_words-short.result w.short c.short_words-short.ensures.value c.args.number c.if-number-short.true in
     omega arith
 
 pub append-requires-else-number-short : goal.append-requires-else-number-short
 append-requires-else-number-short g c =
     let w = c.args.self in
-    let e = length_long w.count w.width c.short-words-short.result w.short c.short-words-short.ensures.value c.args.number c.if-number-short.false in
+    let e = length_long w.count w.width c.short_words-short.result w.short c.short_words-short.ensures.value c.args.number c.if-number-short.false in
     omega arith
 
 pub returns-else-number-short : goal.returns-else-number-short
 returns-else-number-short g c =
     let w = c.args.self in
-    let e = long_word w.count w.width c.short-words-short.result w.short c.short-words-short.ensures.value c.args.number c.if-number-short.false in
+    let e = long_word w.count w.width c.short_words-short.result w.short c.short_words-short.ensures.value c.args.number c.if-number-short.false in
     let a = c.append-else-number-short.ensures in
     record { kept = a.kept; capacity = a.capacity; bits = rw e a.bits }

@@ -8,27 +8,27 @@ pub returns-then-first-short : goal.returns-then-first-short
 returns-then-first-short g c =
     let S = g.S.Source in
     let w = c.args.self in
-    short_read w.count w.width c.short-words-short.result c.args.field c.in-ok-first.first (S.tape c.args.source.now) (S.tape c.take-part.new.source)
-    w.short c.short-words-short.ensures.value (S.within c.args.source.now) c.in-ok-first.ensures c.if-first-short.true
+    short_read w.count w.width c.short_words-short.result c.args.field c.in_ok-first.first (S.tape c.args.source.now) (S.tape c.take_part.new.source)
+    w.short c.short_words-short.ensures.value (S.within c.args.source.now) c.in_ok-first.ensures c.if-first-short.true
 
-pub returns-in-err-last : goal.returns-in-err-last
-returns-in-err-last g c =
+pub returns-in_err-last : goal.returns-in_err-last
+returns-in_err-last g c =
     let S = g.S.Source in
     let w = c.args.self in
-    let p = err_from_is_err_and {Q = λ y. y ≡ Store c.in-err-last.field-0.0} c.from-residual-in-err-last.result c.from-residual-in-err-last.ensures.1 in
-    let part = cut_read w.count w.width c.short-words-short.result c.args.field c.in-ok-first.first (S.tape c.args.source.now) (S.tape c.take-part.new.source)
-    w.short c.short-words-short.ensures.value (S.within c.args.source.now) c.in-ok-first.ensures
-    (S.tape c.take-part-2.new.source) c.if-first-short.false _ c.in-err-last.ensures in
+    let p = err_from_is_err_and {Q = λ y. y ≡ Store c.in_err-last.field-0.0} c.from_residual-in_err-last.result c.from_residual-in_err-last.ensures.1 in
+    let part = cut_read w.count w.width c.short_words-short.result c.args.field c.in_ok-first.first (S.tape c.args.source.now) (S.tape c.take_part.new.source)
+    w.short c.short_words-short.ensures.value (S.within c.args.source.now) c.in_ok-first.ensures
+    (S.tape c.take_part-2.new.source) c.if-first-short.false _ c.in_err-last.ensures in
     rw (p.1, p.2) part
 
 -- the numbers of both parts are small
-parts : (g : _) (c : goal.In-ok-last g) → (c.in-ok-first.first < 32768) × (c.in-ok-last.last < 2)
+parts : (g : _) (c : goal.In_ok-last g) → (c.in_ok-first.first < 32768) × (c.in_ok-last.last < 2)
 parts g c =
     let S = g.S.Source in
     let w = c.args.self in
-    parts_small w.count w.width c.short-words-short.result c.args.field c.in-ok-first.first (S.tape c.args.source.now) (S.tape c.take-part.new.source)
-    w.short c.short-words-short.ensures.value (S.within c.args.source.now) c.in-ok-first.ensures
-    (S.tape c.take-part-2.new.source) c.if-first-short.false c.in-ok-last.last (S.within c.take-part.new.source) c.in-ok-last.ensures
+    parts_small w.count w.width c.short_words-short.result c.args.field c.in_ok-first.first (S.tape c.args.source.now) (S.tape c.take_part.new.source)
+    w.short c.short_words-short.ensures.value (S.within c.args.source.now) c.in_ok-first.ensures
+    (S.tape c.take_part-2.new.source) c.if-first-short.false c.in_ok-last.last (S.within c.take_part.new.source) c.in_ok-last.ensures
 
 pub overflow-mul-result : goal.overflow-mul-result
 overflow-mul-result g c = let p = parts g c in omega arith
@@ -43,6 +43,6 @@ pub returns : goal.returns
 returns g c =
     let S = g.S.Source in
     let w = c.args.self in
-    long_read w.count w.width c.short-words-short.result c.args.field c.in-ok-first.first (S.tape c.args.source.now) (S.tape c.take-part.new.source)
-    w.short c.short-words-short.ensures.value (S.within c.args.source.now) c.in-ok-first.ensures
-    (S.tape c.take-part-2.new.source) c.if-first-short.false c.in-ok-last.last (S.within c.take-part.new.source) c.in-ok-last.ensures _ (omega arith)
+    long_read w.count w.width c.short_words-short.result c.args.field c.in_ok-first.first (S.tape c.args.source.now) (S.tape c.take_part.new.source)
+    w.short c.short_words-short.ensures.value (S.within c.args.source.now) c.in_ok-first.ensures
+    (S.tape c.take_part-2.new.source) c.if-first-short.false c.in_ok-last.last (S.within c.take_part.new.source) c.in_ok-last.ensures _ (omega arith)

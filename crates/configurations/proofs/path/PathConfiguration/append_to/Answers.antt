@@ -7,7 +7,7 @@ use Rattle.configurations.specs.Settings.{configuration_code}
 use Rattle.configurations.proofs.Writing.{from_mode, from_absolute, from_relative, from_lines, from_curves, Due, room, put, last}
 use Rattle.configurations.proofs.path.PathConfiguration.append_to.Given as given
 use Rattle.configurations.proofs.path.PathConfiguration.append_to.Goals as goal
-use Rattle.configurations.proofs.path.PathConfiguration.append_to.Goals.{After-append, After-append-sent, After-append-length, After-append-length-2, After-append-sent-2}
+use Rattle.configurations.proofs.path.PathConfiguration.append_to.Goals.{After-append, After-append_sent, After-append_length, After-append_length-2, After-append_sent-2}
 
 -- what is due of the fields v, where they were to go to the sink x and a front of them has come to the sink y
 abbrev Way : (g : given.Over) → PathFields → g.row.S.Denot → g.row.S.Denot → (PathFields → List Bool) → Type 0
@@ -18,60 +18,60 @@ flags_put g c =
     let v = c.args.self.fields in
     put {b = true} {sent = true} (fixed 7 v.flags) (from_mode v) (record { bits = refl; capacity = refl }) refl _ c.append.ensures.bits c.append.ensures.capacity
 
-mode_put : (g : given.Over) (c : After-append-sent g) → Way g c.args.self.fields c.args.sink.now c.append-sent.new.sink from_absolute
+mode_put : (g : given.Over) (c : After-append_sent g) → Way g c.args.self.fields c.args.sink.now c.append_sent.new.sink from_absolute
 mode_put g c =
     let v = c.args.self.fields in
-    put (fixed 1 v.mode) (from_absolute v) (flags_put g (goal.at.After-append-sent g c).After-append) c.flagged.ensures _ c.append-sent.ensures.bits c.append-sent.ensures.capacity
+    put (fixed 1 v.mode) (from_absolute v) (flags_put g (goal.at.After-append_sent g c).After-append) c.flagged.ensures _ c.append_sent.ensures.bits c.append_sent.ensures.capacity
 
-absolute_put : (g : given.Over) (c : After-append-length g) → Way g c.args.self.fields c.args.sink.now c.append-length.new.sink from_relative
+absolute_put : (g : given.Over) (c : After-append_length g) → Way g c.args.self.fields c.args.sink.now c.append_length.new.sink from_relative
 absolute_put g c =
     let v = c.args.self.fields in
-    put (field_code v.absolute) (from_relative v) (mode_put g (goal.at.After-append-length g c).After-append-sent) c.uses-absolute.ensures _ c.append-length.ensures.bits c.append-length.ensures.capacity
+    put (field_code v.absolute) (from_relative v) (mode_put g (goal.at.After-append_length g c).After-append_sent) c.uses_absolute.ensures _ c.append_length.ensures.bits c.append_length.ensures.capacity
 
-relative_put : (g : given.Over) (c : After-append-length-2 g) → Way g c.args.self.fields c.args.sink.now c.append-length-2.new.sink from_lines
+relative_put : (g : given.Over) (c : After-append_length-2 g) → Way g c.args.self.fields c.args.sink.now c.append_length-2.new.sink from_lines
 relative_put g c =
     let v = c.args.self.fields in
-    put (field_code v.relative) (from_lines v) (absolute_put g (goal.at.After-append-length-2 g c).After-append-length) c.uses-relative.ensures _ c.append-length-2.ensures.bits c.append-length-2.ensures.capacity
+    put (field_code v.relative) (from_lines v) (absolute_put g (goal.at.After-append_length-2 g c).After-append_length) c.uses_relative.ensures _ c.append_length-2.ensures.bits c.append_length-2.ensures.capacity
 
-lines_put : (g : given.Over) (c : After-append-sent-2 g) → Way g c.args.self.fields c.args.sink.now c.append-sent-2.new.sink from_curves
+lines_put : (g : given.Over) (c : After-append_sent-2 g) → Way g c.args.self.fields c.args.sink.now c.append_sent-2.new.sink from_curves
 lines_put g c =
     let v = c.args.self.fields in
-    put (fixed 2 v.lines) (from_curves v) (relative_put g (goal.at.After-append-sent-2 g c).After-append-length-2) c.flagged-2.ensures _ c.append-sent-2.ensures.bits c.append-sent-2.ensures.capacity
+    put (fixed 2 v.lines) (from_curves v) (relative_put g (goal.at.After-append_sent-2 g c).After-append_length-2) c.flagged-2.ensures _ c.append_sent-2.ensures.bits c.append_sent-2.ensures.capacity
 
-pub append-sent-requires : goal.append-sent-requires
-append-sent-requires g c =
+pub append_sent-requires : goal.append_sent-requires
+append_sent-requires g c =
     let v = c.args.self.fields in
-    room (fixed 1 v.mode) (from_absolute v) (flags_put g (goal.at.append-sent-requires g c).After-append) c.flagged.ensures c.requires
+    room (fixed 1 v.mode) (from_absolute v) (flags_put g (goal.at.append_sent-requires g c).After-append) c.flagged.ensures c.requires
 
-pub append-length-requires : goal.append-length-requires
-append-length-requires g c =
+pub append_length-requires : goal.append_length-requires
+append_length-requires g c =
     let v = c.args.self.fields in
-    (search rules, room (field_code v.absolute) (from_relative v) (mode_put g (goal.at.append-length-requires g c).After-append-sent) c.uses-absolute.ensures c.requires)
+    (search rules, room (field_code v.absolute) (from_relative v) (mode_put g (goal.at.append_length-requires g c).After-append_sent) c.uses_absolute.ensures c.requires)
 
-pub append-length-requires-2 : goal.append-length-requires-2
-append-length-requires-2 g c =
+pub append_length-requires-2 : goal.append_length-requires-2
+append_length-requires-2 g c =
     let v = c.args.self.fields in
-    (search rules, room (field_code v.relative) (from_lines v) (absolute_put g (goal.at.append-length-requires-2 g c).After-append-length) c.uses-relative.ensures c.requires)
+    (search rules, room (field_code v.relative) (from_lines v) (absolute_put g (goal.at.append_length-requires-2 g c).After-append_length) c.uses_relative.ensures c.requires)
 
-pub append-sent-requires-2 : goal.append-sent-requires-2
-append-sent-requires-2 g c =
+pub append_sent-requires-2 : goal.append_sent-requires-2
+append_sent-requires-2 g c =
     let v = c.args.self.fields in
-    room (fixed 2 v.lines) (from_curves v) (relative_put g (goal.at.append-sent-requires-2 g c).After-append-length-2) c.flagged-2.ensures c.requires
+    room (fixed 2 v.lines) (from_curves v) (relative_put g (goal.at.append_sent-requires-2 g c).After-append_length-2) c.flagged-2.ensures c.requires
 
-pub append-sent-requires-3 : goal.append-sent-requires-3
-append-sent-requires-3 g c =
+pub append_sent-requires-3 : goal.append_sent-requires-3
+append_sent-requires-3 g c =
     let v = c.args.self.fields in
-    room (fixed 4 v.curves) [] (last (from_curves v) (lines_put g (goal.at.append-sent-requires-3 g c).After-append-sent-2)) (ap not c.flagged-3.ensures) c.requires
+    room (fixed 4 v.curves) [] (last (from_curves v) (lines_put g (goal.at.append_sent-requires-3 g c).After-append_sent-2)) (ap not c.flagged-3.ensures) c.requires
 
 pub returns : goal.returns
 returns g c =
     let s = g.S.Sink in
     let v = c.args.self.fields in
-    let d = last (from_curves v) (lines_put g (goal.at.returns g c).After-append-sent-2) in
-    let all = put (fixed 4 v.curves) [] d (ap not c.flagged-3.ensures) _ c.append-sent-3.ensures.bits c.append-sent-3.ensures.capacity in
+    let d = last (from_curves v) (lines_put g (goal.at.returns g c).After-append_sent-2) in
+    let all = put (fixed 4 v.curves) [] d (ap not c.flagged-3.ensures) _ c.append_sent-3.ensures.bits c.append_sent-3.ensures.capacity in
     record {
-      kept = s.joined _ _ _ c.append.ensures.kept (s.joined _ _ _ c.append-sent.ensures.kept (s.joined _ _ _ c.append-length.ensures.kept
-          (s.joined _ _ _ c.append-length-2.ensures.kept (s.joined _ _ _ c.append-sent-2.ensures.kept c.append-sent-3.ensures.kept))));
+      kept = s.joined _ _ _ c.append.ensures.kept (s.joined _ _ _ c.append_sent.ensures.kept (s.joined _ _ _ c.append_length.ensures.kept
+          (s.joined _ _ _ c.append_length-2.ensures.kept (s.joined _ _ _ c.append_sent-2.ensures.kept c.append_sent-3.ensures.kept))));
       capacity = all.capacity;
-      bits = sym (append-nil (s.content c.append-sent-3.new.sink).bits) ∙ all.bits;
+      bits = sym (append-nil (s.content c.append_sent-3.new.sink).bits) ∙ all.bits;
     }

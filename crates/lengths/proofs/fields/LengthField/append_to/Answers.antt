@@ -6,7 +6,7 @@ use Rattle.lengths.proofs.fields.LengthField.append_to.Goals as goal
 pub returns-in-Sent : goal.returns-in-Sent
 returns-in-Sent g c =
     let a = c.append-in-Sent.ensures in
-    let cl = c.in-Sent.code-length in
+    let cl = c.in-Sent.code_length in
     let held = (g.S.Sink.content c.args.sink.now).bits in
     record {
       kept = a.kept;

@@ -4,13 +4,13 @@ use Rattle.availability.proofs.Ranks.{some_words}
 use Rattle.path_items.proofs.agreed.AgreedConfiguration.new.Goals as goal
 
 pub ilog2-width-requires : goal.ilog2-width-requires
-ilog2-width-requires c = let s = some_words c.args.configuration.fields in omega (arith, c.count-before-count.ensures.value)
+ilog2-width-requires c = let s = some_words c.args.configuration.fields in omega (arith, c.count_before-count.ensures.value)
 
 pub invariant-of-result : goal.invariant-of-result
 invariant-of-result c =
     let k = c.ilog2-width.result in
-    let n = c.count-before-count.result in
+    let n = c.count_before-count.result in
     let s = some_words c.args.configuration.fields in
-    let v = c.count-before-count.ensures.value in
+    let v = c.count_before-count.ensures.value in
     let e = c.ilog2-width.ensures in
     (omega arith, (log_only k n (omega arith) (e.power_le, omega (arith, pow-suc 2 k, e.next-power-gt)), tt))

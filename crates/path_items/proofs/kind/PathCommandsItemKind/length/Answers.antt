@@ -9,8 +9,8 @@ use Rattle.path_items.proofs.kind.PathCommandsItemKind.length.Goals as goal
 pub bounds-values-index : goal.bounds-values-index
 bounds-values-index c = let l = row_small c.row-entry.result c.args.item.now.number c.row-entry.ensures in omega arith
 
-pub value-length-total-requires : goal.value-length-total-requires
-value-length-total-requires c =
+pub value_length-total-requires : goal.value_length-total-requires
+value_length-total-requires c =
     let w = c.args.configuration.now in
     let r = c.args.item.now in
     let i = c.loop-index.index in
@@ -26,10 +26,10 @@ loop-index-preserved c =
     let code = value_code w.configuration.fields w.defaults e in
     let f : SFits w32 (get_or r.values i (pos 0)) = search rules in
     let k = rowed w.configuration.fields w.defaults r e c.requires c.row-entry.ensures in
-    let v = (simp to_z-of_z at c.value-length-total.ensures.value) in
+    let v = (simp to_z-of_z at c.value_length-total.ensures.value) in
     let n = ap length (order_next code e.1 r.values k.enough i (pos 0) c.loop-index-test.true)
     ∙ length-append (code i (get_or r.values i (pos 0))) (in_order code (i + 1) (drop (i + 1) (take e.1 r.values))) in
-    let few = c.value-length-total.ensures.bound in
+    let few = c.value_length-total.ensures.bound in
     let inv = c.loop-index.invariant in
     (omega arith, omega arith)
 
@@ -43,7 +43,7 @@ returns c =
     let k = rowed w.configuration.fields w.defaults r e c.requires c.row-entry.ensures in
     let all : c.loop-index.index ≡ e.1 = omega arith in
     let end = ap (λ j. length (in_order code j (drop j (take e.1 r.values)))) all ∙ ap length (order_end code e.1 r.values k.enough) in
-    let parts = parts_length w.configuration.fields w.defaults r e w.words.count c.word-number-word.result w.counted c.word-number-word.ensures c.row-entry.ensures in
+    let parts = parts_length w.configuration.fields w.defaults r e w.words.count c.word_number-word.result w.counted c.word_number-word.ensures c.row-entry.ensures in
     let one = c.length-total.ensures.value in
     let inv = c.loop-index.invariant in
     record { value = omega arith; bound = omega arith }
