@@ -1,5 +1,5 @@
 -- From what reading makes of bits to what a call promises.
-use Rattle.std.proofs.Common.{◌≡◌, ℕ, ◌+◌, ◌<◌, ◌≤◌, Bool, true, false, ◌⊎◌, List, [], ◌∷◌, ◌++◌, length, take, drop, is_ok, Ok, Err, Result, sym, refl, ap, ◌∙◌, inl, inr, arith, length-drop}
+use Rattle.std.proofs.Common.{◌≡◌, ℕ, ◌<◌, ◌≤◌, Bool, true, false, ◌⊎◌, List, [], ◌∷◌, ◌++◌, length, take, drop, is_ok, Ok, Err, Result, refl, ap, ◌∙◌, inl, inr, arith, length-drop}
 use Rattle.bits.specs.Stores.{Tape, left, Parse, got, refused, ReadAs, Reads, one_field, returned}
 use Rattle.bits.specs.declared.StoreFault.{StoreFault}
 use Rattle.bits.specs.declared.StoreFault.TheVariants.{End}

@@ -1,12 +1,11 @@
 -- The length field is read back, and only length fields are read.
-use Rattle.std.proofs.Common.{◌≡◌, ℕ, zero, suc, ◌+◌, ◌-◌, ◌/◌, ◌%◌, ◌^◌, ◌<◌, ◌≤◌, Bool, true, false, cond, ◌&&◌, eqb, ltb, leb, List, [], ◌∷◌, ◌++◌, length, take, drop, is_ok, Ok, Err, Result, sym, refl, ap, ◌∙◌, arith, length-append, take-append-drop, length-take-le, take_at, drop_at}
+use Rattle.std.proofs.Common.{◌≡◌, ℕ, zero, suc, ◌+◌, ◌/◌, ◌%◌, ◌<◌, ◌≤◌, Bool, true, false, cond, eqb, ltb, leb, List, [], ◌∷◌, ◌++◌, length, take, drop, is_ok, Ok, Err, Result, sym, refl, ap, ◌∙◌, arith, length-append, take-append-drop, length-take-le, take_at, drop_at}
 use Rattle.std.proofs.lemmas.Bool.{le-ltb, lt-ltb, ltb-false, le-leb, leb-true, and_parts}
 use Rattle.bits.specs.Codes.{fixed, number}
-use Rattle.bits.specs.Stores.{Tape, left, Parse, got, refused, ReadAs, one_field}
+use Rattle.bits.specs.Stores.{Tape, left, got, refused, ReadAs, one_field}
 use Rattle.bits.specs.declared.StoreFault.{StoreFault}
 use Rattle.bits.specs.declared.StoreFault.TheVariants.{End}
 use Rattle.bits.proofs.Codes.{length_fixed, fixed_low, number_field, fixed_number}
-use Rattle.lengths.specs.declared.faults.NumberFault.{NumberFault}
 use Rattle.lengths.specs.declared.faults.NumberFault.TheVariants.{Store, Length}
 use Rattle.lengths.specs.Lengths.{is_length}
 use Rattle.lengths.specs.Coding.{PartAs}

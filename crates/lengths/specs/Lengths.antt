@@ -1,5 +1,5 @@
 -- Code lengths, from 1 to 14.
-use Rattle.std.specs.Prelude.{◌≡◌, ℕ, zero, suc, ◌-◌, ◌^◌, Bool, true, false, ◌&&◌, nat_le}
+use Rattle.std.specs.Prelude.{◌≡◌, ℕ, ◌-◌, ◌^◌, Bool, true, false, ◌&&◌, nat_le}
 use Rattle.lengths.specs.declared.DefaultsFault.{DefaultsFault}
 use Rattle.lengths.specs.declared.DefaultsFault.TheVariants.{Absolute, Relative}
 use Rattle.lengths.specs.declared.Mode.{Mode}

@@ -1,4 +1,3 @@
-use Rattle.std.proofs.Common.{◌≡◌, sym}
 use Rattle.std.proofs.lemmas.Result.{err_from_is_err_and}
 use Rattle.lengths.proofs.FieldLaws.{default_read, cut_read, lawful_read, unlawful_read}
 use Rattle.lengths.proofs.fields.take_length_field.Goals as goal

@@ -1,4 +1,4 @@
-use Rattle.std.proofs.Common.{◌≡◌, ◌++◌, sym, ap, ◌∙◌}
+use Rattle.std.proofs.Common.{◌++◌, sym, ap, ◌∙◌}
 use Rattle.lengths.specs.Fields.{field_code, sent_by}
 use Rattle.lengths.proofs.FieldLaws.{sent_code}
 use Rattle.lengths.proofs.fields.LengthField.append_to.Goals as goal

@@ -1,4 +1,4 @@
-use Rattle.std.proofs.Common.{◌≡◌, ◌≤◌, sym, ap, ◌∙◌}
+use Rattle.std.proofs.Common.{◌≤◌, sym, ap, ◌∙◌}
 use Rattle.bits.specs.Stores.{returned}
 use Rattle.lengths.specs.Fields.{sent_in, field_code, one_length_field}
 use Rattle.lengths.proofs.CodingLaws.{faithful, completed}
