@@ -1,5 +1,5 @@
 -- How many bits a code has.
-use Rattle.std.proofs.Common.{◌≡◌, ℕ, zero, suc, ◌+◌, ◌-◌, ◌*◌, ◌/◌, ◌%◌, ◌^◌, ◌<◌, ◌≤◌, Bool, true, false, List, [], ◌∷◌, ◌++◌, length, sym, refl, ap, ◌∙◌, suc-mul, mul_comm, mul-le-mul_left, pow-suc, mul-add, div-mul-le_self, arith, length-append}
+use Rattle.std.proofs.Common.{◌≡◌, ℕ, zero, suc, ◌+◌, ◌*◌, ◌/◌, ◌%◌, ◌≤◌, Bool, true, List, ◌++◌, length, ap, ◌∙◌, suc-mul, mul_comm, mul-le-mul_left, pow-suc, mul-add, div-mul-le_self, arith, length-append}
 use lib.ListN.{length-replicate}
 use Rattle.std.proofs.lemmas.Nat.{pow_pos}
 use Rattle.bits.specs.Codes.{fixed}

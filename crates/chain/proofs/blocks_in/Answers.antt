@@ -1,6 +1,6 @@
-use Rattle.std.proofs.Common.{sym, ap, ◌∙◌, arith, rules, below_more}
+use Rattle.std.proofs.Common.{sym, ap, ◌∙◌, arith, below_more}
 use Rattle.chain.specs.Chain.{link, Linked}
-use Rattle.chain.proofs.Chains.{met_more, apart, endless, outside}
+use Rattle.chain.proofs.Chains.{met_more, apart, endless}
 use Rattle.chain.proofs.blocks_in.Goals as goal
 
 pub returns-then-block-eq0 : goal.returns-then-block-eq0

@@ -1,4 +1,4 @@
-use Rattle.std.proofs.Common.{◌≡◌, ◌+◌, ◌-◌, ◌<◌, ◌≤◌, ◌++◌, sym, ap, ◌∙◌, append_assoc, arith}
+use Rattle.std.proofs.Common.{◌-◌, ◌<◌, ◌≤◌, ◌++◌, sym, ap, ◌∙◌, append_assoc, arith}
 use Rattle.bits.specs.Codes.{fixed}
 use Rattle.lengths.specs.Lengths.{largest}
 use Rattle.naturals.specs.Naturals.{natural_code}

@@ -2,8 +2,8 @@ use Rattle.std.proofs.Common.{sym, arith}
 use Rattle.naturals.proofs.Sizes.{length_natural, natural_near}
 use Rattle.naturals.proofs.natural_length.Goals as goal
 
-pub overflow-mul-result : goal.overflow-mul-result
-overflow-mul-result c =
+pub overflow_mul-result : goal.overflow_mul-result
+overflow_mul-result c =
     rw c.largest.ensures.value
     (record { fits = (let l = c.args.code_length.lawful.1 in omega (arith, natural_near c.args.code_length.bits c.args.number)) })
 

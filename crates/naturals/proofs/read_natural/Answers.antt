@@ -1,4 +1,4 @@
-use Rattle.std.proofs.Common.{◌≡◌, ◌≤◌}
+use Rattle.std.proofs.Common.{◌≤◌}
 use Rattle.naturals.specs.Naturals.{natural_code, one_natural, sum_limit}
 use Rattle.lengths.proofs.CodingLaws.{faithful, completed}
 use Rattle.naturals.proofs.NaturalLaws.{back, only}

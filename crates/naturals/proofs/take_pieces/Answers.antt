@@ -1,8 +1,7 @@
-use Rattle.std.proofs.Common.{◌≡◌, ◌+◌, ◌<◌, ◌≤◌, take, Ok, Err, sym, refl, ap, ◌∙◌, arith}
+use Rattle.std.proofs.Common.{◌+◌, ◌<◌, take, Ok, refl, ap, ◌∙◌, arith}
 use Rattle.std.proofs.lemmas.Result.{err_from_is_err_and}
 use Rattle.bits.specs.Codes.{number}
 use Rattle.bits.specs.Stores.{left}
-use Rattle.lengths.specs.declared.faults.NumberFault.TheVariants.{Store}
 use Rattle.naturals.specs.Naturals.{sum_limit}
 use Rattle.lengths.proofs.CodingLaws.{took, missed, part_got, part_refused}
 use Rattle.naturals.proofs.NaturalLaws.{step_short, step_big, step_more, step_done}
@@ -20,14 +19,14 @@ returns-in_err-piece g c =
     rw (p.1, p.2, m.1)
     (record { part = part_refused _ _ _ _ e refl (ap (λ z. z.bits) m.2 ∙ i.1) (let q = ap (λ z. z.position) m.2 in omega (arith, i.2)); small = tt })
 
-pub overflow-add-sum : goal.overflow-add-sum
-overflow-add-sum g c =
+pub overflow_add-sum : goal.overflow_add-sum
+overflow_add-sum g c =
     let S = g.S.Source in
     let k = took c.args.code_length.bits c.args.field (S.tape c.loop-piece.source) (S.tape c.take_part.new.source) c.in_ok-piece.piece c.args.code_length.lawful.1 (S.within c.loop-piece.source) c.in_ok-piece.ensures in
     record { fits = omega (arith, k.small, c.loop-piece.invariant.0) }
 
-pub returns-then-sum-piece-gt-SUM-LIMIT : goal.returns-then-sum-piece-gt-SUM-LIMIT
-returns-then-sum-piece-gt-SUM-LIMIT g c =
+pub returns-then-sum-piece-gt-SUM_LIMIT : goal.returns-then-sum-piece-gt-SUM_LIMIT
+returns-then-sum-piece-gt-SUM_LIMIT g c =
     let S = g.S.Source in
     let t = S.tape c.loop-piece.source in
     let cl = c.args.code_length.bits in

@@ -16,8 +16,8 @@ whole c =
     let two = (simp (to_z-of_z, c.chosen.ensures, c.field_of-field.ensures) at c.integer_length.ensures) in
     omega (arith, length-append (field_code a.length) (integer_code Absolute (chosen a.length c.args.default.bits) a.value))
 
-pub overflow-add-result : goal.overflow-add-result
-overflow-add-result c =
+pub overflow_add-result : goal.overflow_add-result
+overflow_add-result c =
     let l = c.args.default.lawful in
     record { fits = omega (arith, whole c, argument_short c.args.default.bits c.args.argument l.0 l.1 (c.requires.0, c.requires.1)) }
 

@@ -3,8 +3,8 @@ use Rattle.chain.specs.Chain.{Linked}
 use Rattle.chain.proofs.Chains.{few}
 use Rattle.chain.proofs.ChainSink.over.Goals as goal
 
-pub invariant-of-result-2 : goal.invariant-of-result-2
-invariant-of-result-2 c =
+pub invariant_of-result-2 : goal.invariant_of-result-2
+invariant_of-result-2 c =
     let bytes = c.args.bytes.now in
     let checked = c.in-Ok.ensures.checked in
     let n = checked.1.0 in
@@ -15,4 +15,4 @@ invariant-of-result-2 c =
     let linked : Linked bytes c.args.first (c.in-Ok.capacity / 240) = rw count checked.1.1.0 in
     let fits : c.args.held ≤ 240 * (c.in-Ok.capacity / 240) = rw count checked.1.3 in
     let less = few bytes c.args.first (c.in-Ok.capacity / 240) (omega arith) linked in
-    (linked, (fits, (c.block_at-block.ensures, (omega arith, ((λ _. size), tt)))))
+    record { linked = linked; fits = fits; here = c.block_at-block.ensures; small = omega arith; sized = λ _. size }

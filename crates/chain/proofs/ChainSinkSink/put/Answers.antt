@@ -12,8 +12,8 @@ returns-then-held-self c =
     let s = c.args.self.now in
     record { kept = chain_stays (laid (lent s.bytes.ghost_name s.bytes.now s.held) s.first s.count); put = put_none (spot s.bytes.now s.first) s.bytes.now s.held (240 * s.count) c.args.bit (omega arith) }
 
-pub invariant-of-self : goal.invariant-of-self
-invariant-of-self c =
+pub invariant_of-self : goal.invariant_of-self
+invariant_of-self c =
     let s = c.args.self.now in
     let bytes = s.bytes.now in
     let r = c.with_bit.result in
@@ -30,7 +30,7 @@ invariant-of-self c =
     next ∙ sym (met_kept bytes s.first s.held s.block s.here s.count r b s.linked room sets ((s.held + 1) / 240)) in
     let fits : s.held + 1 ≤ 240 * s.count = omega arith in
     let sized : 0 < s.count → length (set bytes (place / 8) r) ≤ 65536 = λ h. let l = length-set bytes (place / 8) r in let q = s.sized h in omega arith in
-    (linked_kept bytes s.first s.held s.block s.here s.count r b s.linked room sets, (fits, (here, (s.small, (sized, tt)))))
+    record { linked = linked_kept bytes s.first s.held s.block s.here s.count r b s.linked room sets; fits = fits; here = here; small = s.small; sized = sized }
 
 pub returns : goal.returns
 returns c =
@@ -41,7 +41,7 @@ returns c =
     let sets = c.with_bit.ensures in
     let room : s.held < 240 * s.count = omega arith in
     record {
-      kept = chain_kept bytes s.first s.held s.block s.here s.count r b s.linked room sets s.bytes.name;
+      kept = chain_kept bytes s.first s.held s.block s.here s.count r b s.linked room sets s.bytes.ghost_name;
       put = put_more (spot bytes s.first) bytes s.held (240 * s.count) b _ room
           (chain_put bytes s.first s.held s.block s.here s.count r b s.linked room sets);
     }

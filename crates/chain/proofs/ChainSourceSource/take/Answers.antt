@@ -1,4 +1,4 @@
-use Rattle.std.proofs.Common.{◌≡◌, ◌+◌, ◌/◌, ◌<◌, ◌≤◌, ◌∙◌, arith}
+use Rattle.std.proofs.Common.{◌≡◌, ◌+◌, ◌/◌, ◌≤◌, ◌∙◌, arith}
 use Rattle.chain.specs.Chain.{met, spot}
 use Rattle.layout.proofs.Spots.{take_next, take_none}
 use Rattle.chain.proofs.Chains.{stays, moves, bit_here}
@@ -10,8 +10,8 @@ returns-then-position-self c =
     let s = c.args.self.now in
     take_none (spot s.bytes.now s.first) s.bytes.now s.position s.end (omega arith)
 
-pub invariant-of-self : goal.invariant-of-self
-invariant-of-self c =
+pub invariant_of-self : goal.invariant_of-self
+invariant_of-self c =
     let s = c.args.self.now in
     let bytes = s.bytes.now in
     let here : c.if-place-eq239.next ≡ met bytes s.first ((s.position + 1) / 240) =
@@ -20,7 +20,7 @@ invariant-of-self c =
       | else-place-eq239 w ↦ w.next-is ∙ stays bytes s.first s.position s.block s.here w.if-place-eq239.false
     ] in
     let ahead : s.position + 1 ≤ s.end = omega arith in
-    (s.linked, (s.fits, (here, (ahead, tt))))
+    record { linked = s.linked; fits = s.fits; here = here; ahead = ahead }
 
 pub returns : goal.returns
 returns c =

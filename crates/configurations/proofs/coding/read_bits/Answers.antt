@@ -7,8 +7,8 @@ use Rattle.lengths.specs.declared.faults.NumberFault.TheVariants.{Store}
 use Rattle.configurations.proofs.SettingLaws.{number_laws}
 use Rattle.configurations.proofs.coding.read_bits.Goals as goal
 
-pub overflow-cast-result : goal.overflow-cast-result
-overflow-cast-result g c =
+pub overflow_cast-result : goal.overflow_cast-result
+overflow_cast-result g c =
     let S = g.S.Source in
     let s = S.tape c.args.source.now in
     let t = S.tape c.take_part.new.source in

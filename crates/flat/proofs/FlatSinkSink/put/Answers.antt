@@ -1,4 +1,4 @@
-use Rattle.std.proofs.Common.{◌≡◌, refl, arith}
+use Rattle.std.proofs.Common.{refl, arith}
 use Rattle.layout.specs.Laws.{kept_stays}
 use Rattle.layout.proofs.Spots.{stored_put, stored_kept, put_more, put_none}
 use Rattle.flat.proofs.FlatSinkSink.put.Goals as goal
@@ -16,6 +16,6 @@ returns c =
     let b = c.args.bit in
     let sets = c.with_bit.ensures in
     record {
-      kept = stored_kept bytes s.held r b (omega arith) sets (λ i. i) s.held refl (λ j l e. omega arith) s.bytes.name;
+      kept = stored_kept bytes s.held r b (omega arith) sets (λ i. i) s.held refl (λ j l e. omega arith) s.bytes.ghost_name;
       put = put_more (λ i. i) bytes s.held s.capacity b _ (omega arith) (stored_put bytes s.held r b (omega arith) sets (λ i. i) s.held refl (λ j l e. omega arith));
     }

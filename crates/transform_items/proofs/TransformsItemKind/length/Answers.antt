@@ -25,8 +25,8 @@ argument_length-total-requires-in-loop-index c =
     let l = c.following-index-end.ensures.value in
     simp c.six-arguments.ensures (sound_at c.args.item.now c.requires (c.loop-index.index + 1) (omega arith))
 
-pub overflow-add-total-in-loop-index : goal.overflow-add-total-in-loop-index
-overflow-add-total-in-loop-index c =
+pub overflow_add-total-in-loop-index : goal.overflow_add-total-in-loop-index
+overflow_add-total-in-loop-index c =
     let few = c.following-index-end.ensures.bound in
     record { fits = omega (arith, c.loop-index.invariant.1, c.argument_length-total-in-loop-index.ensures.bound) }
 

@@ -30,14 +30,14 @@ parts g c =
     w.short c.short_words-short.ensures.value (S.within c.args.source.now) c.in_ok-first.ensures
     (S.tape c.take_part-2.new.source) c.if-first-short.false c.in_ok-last.last (S.within c.take_part.new.source) c.in_ok-last.ensures
 
-pub overflow-mul-result : goal.overflow-mul-result
-overflow-mul-result g c = let p = parts g c in omega arith
+pub overflow_mul-result : goal.overflow_mul-result
+overflow_mul-result g c = let p = parts g c in omega arith
 
-pub overflow-add-result : goal.overflow-add-result
-overflow-add-result g c = let p = parts g c in omega arith
+pub overflow_add-result : goal.overflow_add-result
+overflow_add-result g c = let p = parts g c in omega arith
 
-pub overflow-cast-result-2 : goal.overflow-cast-result-2
-overflow-cast-result-2 g c = let p = parts g c in omega arith
+pub overflow_cast-result-2 : goal.overflow_cast-result-2
+overflow_cast-result-2 g c = let p = parts g c in omega arith
 
 pub returns : goal.returns
 returns g c =

@@ -33,13 +33,13 @@ returns-in_err-fields g c =
     let h = (rw c.in_err-fields.was at (reads g (goal.at.returns-in_err-fields g c).After-or_back)) in
     rw (p.1, p.2) (record { reads = h; faithful = configuration_read _ _ _ h })
 
-pub invariant-of-result : goal.invariant-of-result
-invariant-of-result g c =
+pub invariant_of-result : goal.invariant_of-result
+invariant_of-result g c =
     let S = g.S.Source in
     let s = S.tape c.args.source.now in
     let t = S.tape c.or_back.new.source in
     let v = c.in_ok-fields.fields in
-    let h = (rw c.in_ok-fields.was at (reads g (goal.at.invariant-of-result g c).After-or_back)) in
+    let h = (rw c.in_ok-fields.was at (reads g (goal.at.invariant_of-result g c).After-or_back)) in
     ((configuration_exact s.position v (left s) (left t) (read_ok (one_configuration s.position (left s)) s t v h).0).0, tt)
 
 pub returns : goal.returns

@@ -6,8 +6,8 @@ use Rattle.path_items.proofs.agreed.AgreedConfiguration.new.Goals as goal
 pub ilog2-width-requires : goal.ilog2-width-requires
 ilog2-width-requires c = let s = some_words c.args.configuration.fields in omega (arith, c.count_before-count.ensures.value)
 
-pub invariant-of-result : goal.invariant-of-result
-invariant-of-result c =
+pub invariant_of-result : goal.invariant_of-result
+invariant_of-result c =
     let k = c.ilog2-width.result in
     let n = c.count_before-count.result in
     let s = some_words c.args.configuration.fields in
