@@ -1,6 +1,6 @@
 -- Reading an integer whose first piece is all ones.
-use Rattle.std.proofs.Common.{◌≡◌, ℕ, ◌+◌, ◌<◌, ◌≤◌, Bool, true, false, List, [], ◌∷◌, ◌++◌, length, take, drop, ℤ, pos, negsuc, Ok, Err, sym, refl, ap, ◌∙◌, ⊎_elim, arith}
-use Rattle.bits.specs.Stores.{Tape, left, Parse, got, refused, ReadAs, one_field}
+use Rattle.std.proofs.Common.{◌≡◌, ℕ, ◌+◌, ◌≤◌, true, false, ◌∷◌, length, drop, ℤ, pos, negsuc, Ok, Err, sym, refl, ap, ◌∙◌, ⊎_elim, arith}
+use Rattle.bits.specs.Stores.{Tape, left, refused, ReadAs, one_field}
 use Rattle.lengths.specs.Coding.{PartAs}
 use Rattle.lengths.specs.declared.faults.NumberFault.{NumberFault}
 use Rattle.lengths.specs.Lengths.{largest}

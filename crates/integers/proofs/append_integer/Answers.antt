@@ -1,8 +1,7 @@
-use Rattle.std.proofs.Common.{◌≡◌, ◌++◌, length, sym, ap, ◌∙◌, arith, length-append}
+use Rattle.std.proofs.Common.{◌++◌, length, ap, ◌∙◌, arith, length-append}
 use Rattle.std.proofs.lemmas.Int.{to_z-of_z}
 use Rattle.bits.specs.Codes.{fixed}
 use Rattle.bits.proofs.Codes.{length_fixed}
-use Rattle.naturals.specs.Naturals.{natural_code}
 use Rattle.integers.proofs.Forms.{length_escaped, escaped_parts}
 use Rattle.integers.proofs.append_integer.Goals as goal
 

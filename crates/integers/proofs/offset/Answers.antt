@@ -1,4 +1,4 @@
-use Rattle.std.proofs.Common.{◌≡◌, ◌-◌, ◌^◌, ◌≤◌, sym, ap, ◌∙◌, arith, pow_mono}
+use Rattle.std.proofs.Common.{◌-◌, ◌^◌, ◌≤◌, sym, ap, ◌∙◌, arith, pow_mono}
 use Rattle.std.proofs.lemmas.Nat.{one_shl, pow_pos}
 use Rattle.std.proofs.lemmas.Int.{ints}
 use Rattle.integers.specs.Integers.{offset}

@@ -1,7 +1,6 @@
-use Rattle.std.proofs.Common.{◌≡◌, ◌+◌, ◌<◌, pos, negsuc, ◌+ℤ◌, nat_abs, arith}
+use Rattle.std.proofs.Common.{◌+ℤ◌, arith}
 use Rattle.std.proofs.lemmas.Int.{ints}
 use Rattle.integers.specs.Integers.{offset}
-use Rattle.lengths.specs.Lengths.{largest}
 use Rattle.integers.proofs.IntegerLaws.{shape_single, shape_above, shape_below}
 use Rattle.integers.proofs.shape_of.Goals as goal
 

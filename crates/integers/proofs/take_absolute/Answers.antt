@@ -1,10 +1,9 @@
-use Rattle.std.proofs.Common.{◌≡◌, ◌+◌, ◌<◌, ◌≤◌, true, false, ◌∷◌, pos, negsuc, Ok, Err, sym, refl, ap, ◌∙◌, arith}
+use Rattle.std.proofs.Common.{◌≤◌, Ok, ap, arith}
 use Rattle.std.proofs.lemmas.Result.{err_from_is_err_and}
 use Rattle.std.proofs.lemmas.Int.{ints}
 use Rattle.bits.specs.Stores.{left}
 use Rattle.lengths.specs.Lengths.{largest}
-use Rattle.naturals.specs.Naturals.{one_natural, sum_limit}
-use Rattle.integers.specs.Integers.{mapped}
+use Rattle.naturals.specs.Naturals.{sum_limit}
 use Rattle.lengths.proofs.CodingLaws.{took, part_got}
 use Rattle.integers.proofs.Escapes.{above_read, below_read, not_read}
 use Rattle.integers.proofs.IntegerLaws.{way_single}
