@@ -5,4 +5,4 @@ use Rattle.words.proofs.Words.new.Goals as goal
 pub invariant_of-result : goal.invariant_of-result
 invariant_of-result c =
     let k = c.ilog2.result in
-    (omega arith, (log_only k c.args.count (omega arith) (omega arith, omega (arith, pow-suc 2 k)), tt))
+    record { some = omega arith; short = log_only k c.args.count (omega arith) (omega arith, omega (arith, pow-suc 2 k)) }
