@@ -1,5 +1,5 @@
 -- The record of a command: its number, and eight values of which unused ones are 0.
-use Rattle.std.specs.Prelude.{ℕ, suc, Bool, true, false, List, [], ◌∷◌, ◌++◌, take, replicate, ℤ, pos}
+use Rattle.std.specs.Prelude.{ℕ, suc, Bool, true, false, List, ◌++◌, take, replicate, ℤ, pos}
 use Rattle.lengths.specs.declared.Mode.{Mode}
 use Rattle.lengths.specs.declared.Mode.TheVariants.{Absolute, Relative}
 use Rattle.commands.specs.declared.Command.{Command}

@@ -1,6 +1,6 @@
 -- The commands in their fixed order, numbered 0 to 25. For each: its mode, how many values it has, where one-bit flags stand among them, and
 -- the choice of a configuration that makes it available. The last one, DONE, is the end word.
-use Rattle.std.specs.Prelude.{ℕ, List, [], ◌∷◌, Some, None, Option}
+use Rattle.std.specs.Prelude.{List, [], ◌∷◌, Some, None, Option}
 use Rattle.lengths.specs.declared.Mode.{Mode}
 use Rattle.lengths.specs.declared.Mode.TheVariants.{Absolute, Relative}
 use Rattle.commands.specs.declared.Entry.{Entry}

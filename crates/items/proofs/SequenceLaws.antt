@@ -1,12 +1,11 @@
 -- Laws of fields that are read one after the other.
-use Rattle.std.proofs.Common.{◌≡◌, ℕ, zero, suc, ◌+◌, ◌-◌, ◌<◌, ◌≤◌, Bool, true, false, cond, ◌&&◌, ltb, List, [], ◌∷◌, ◌++◌, length, take, drop, replicate, Ok, Err, Result, sym, refl, ap, ◌∙◌, ⊎_elim, append_assoc, arith, length-append, length-drop, length-take}
-use lib.ListN.{length-replicate}
+use Rattle.std.proofs.Common.{◌≡◌, ℕ, zero, suc, ◌+◌, ◌-◌, ◌<◌, ◌≤◌, Bool, true, cond, ltb, List, [], ◌∷◌, ◌++◌, length, take, replicate, Ok, Err, Result, sym, refl, ap, ◌∙◌, ⊎_elim, append_assoc, arith, length-append, length-drop}
 use Rattle.std.proofs.lemmas.Bool.{and_parts, and_from, cases_lt, lt-ltb, le-ltb}
 use Rattle.bits.specs.declared.StoreFault.{StoreFault}
 use Rattle.bits.specs.Stores.{Tape, left, Parse, got, refused, ReadAs, Back}
 use Rattle.bits.proofs.Steps.{read_ok}
 use Rattle.lengths.specs.Coding.{PartAs}
-use Rattle.items.specs.Sequences.{onward, carried, mapped, followed, in_turn, in_order, only_used, filled_up}
+use Rattle.items.specs.Sequences.{onward, carried, mapped, followed, in_turn, in_order, only_used}
 
 -- a value that was read by way of another, and a refusal
 pub mapped_got : {E A B : Type 0} (f : A → B) (x : Parse E A) (v : B) (rest : List Bool) → mapped f x ≡ got v rest → (a : A) × (x ≡ got a rest) × (v ≡ f a)

@@ -1,6 +1,6 @@
 -- A kind of item: what is asked of an item, which bits it and the end word have, and how one is read; and the law that these keep.
-use Rattle.std.specs.Prelude.{◌≡◌, ℕ, Bool, true, false, ◌&&◌, List, ◌++◌, Some, None, Option}
-use Rattle.bits.specs.Stores.{Parse, got, refused}
+use Rattle.std.specs.Prelude.{◌≡◌, ℕ, Bool, true, ◌&&◌, List, ◌++◌, Some, None, Option}
+use Rattle.bits.specs.Stores.{Parse, got}
 use Rattle.items.specs.declared.faults.ListFault.{ListFault}
 
 -- the answers to what is asked of an item, in this order: is each of its lengths lawful (13)? is it available, and not the end word (14)?

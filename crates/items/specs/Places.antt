@@ -1,5 +1,5 @@
 -- What a list over lent places holds.
-use Rattle.std.specs.Prelude.{◌≡◌, ℕ, ◌+◌, ◌<◌, ◌≤◌, List as Row, [], ◌∷◌, ◌++◌, length, take, drop, Ok, Err, Result, slice_set}
+use Rattle.std.specs.Prelude.{◌≡◌, ℕ, ◌+◌, ◌<◌, ◌≤◌, List as Row, ◌++◌, length, take, drop, Ok, Err, Result, slice_set}
 use Rattle.items.specs.declared.list.List.{List}
 
 -- all places, and how many of them, from the first on, hold an item

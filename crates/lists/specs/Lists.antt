@@ -1,5 +1,5 @@
 -- Lists of items of one kind.
-use Rattle.std.specs.Prelude.{◌≡◌, ℕ, zero, suc, ◌≤◌, Bool, true, false, List, [], ◌∷◌, ◌++◌, length, Some, None, Option}
+use Rattle.std.specs.Prelude.{◌≡◌, ℕ, zero, suc, ◌≤◌, Bool, true, List, [], ◌∷◌, ◌++◌, length, Some, None, Option}
 use Rattle.bits.specs.Stores.{Parse, got, refused}
 use Rattle.items.specs.declared.faults.ListFault.{ListFault}
 use Rattle.items.specs.declared.faults.ListFault.TheVariants.{Limit, Place}

@@ -1,5 +1,5 @@
 -- What is asked of a list before it is written, and what writing does.
-use Rattle.std.specs.Prelude.{◌≡◌, ℕ, zero, suc, ◌+◌, ◌<◌, ◌≤◌, Bool, cond, List, [], ◌∷◌, ◌++◌, length, Some, None, Ok, Err, Option, Result, nat_lt}
+use Rattle.std.specs.Prelude.{◌≡◌, ℕ, suc, ◌+◌, ◌<◌, ◌≤◌, Bool, cond, List, [], ◌∷◌, ◌++◌, length, Some, None, Ok, Err, Option, Result, nat_lt}
 use Rattle.bits.specs.Stores.{Content}
 use Rattle.bits.specs.declared.StoreFault.TheVariants.{Full}
 use Rattle.items.specs.declared.faults.ItemFault.{ItemFault}
@@ -8,7 +8,6 @@ use Rattle.items.specs.declared.faults.ListName.{ListName}
 use Rattle.items.specs.declared.faults.ListWriteFault.{ListWriteFault}
 use Rattle.items.specs.declared.faults.ListWriteFault.TheVariants.{Limit, Item, Store}
 use Rattle.items.specs.Kinds.{Asked, Kind}
-use Rattle.lists.specs.Lists.{list_bits}
 
 -- is each length of an item lawful (13)?
 abbrev pub lengths_asked : Asked → Option ItemFault

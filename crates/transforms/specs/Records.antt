@@ -1,5 +1,5 @@
 -- The record of a transform: its type, its optional mark and its arguments. Types: translate 0, rotate 1, scale 2, matrix 3, skewX 4, skewY 5.
-use Rattle.std.specs.Prelude.{ℕ, zero, suc, Bool, true, false, ◌&&◌, List, [], ◌∷◌, ◌++◌, ℤ, pos, Some, None, Option, ◌==◌, nat_lt, slice_index_or}
+use Rattle.std.specs.Prelude.{ℕ, zero, suc, Bool, ◌&&◌, List, [], ◌∷◌, ℤ, pos, Some, None, Option, ◌==◌, nat_lt, slice_index_or}
 use Rattle.items.specs.Sequences.{filled_up, is_zero}
 use Rattle.transforms.specs.declared.steps.Argument.{Argument}
 use Rattle.transforms.specs.declared.steps.SpatialSteps.{SpatialSteps}

@@ -4,5 +4,5 @@ use Rattle.configurations.proofs.coding.append_sent.Goals as goal
 
 pub append-requires : goal.append-requires
 append-requires g c =
-    let p = (rw c.if_sent.true at c.requires) in
+    let p = (rw c.if-sent.true at c.requires) in
     omega (arith, length_fixed c.args.width c.args.value)

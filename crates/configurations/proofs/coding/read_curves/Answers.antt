@@ -5,4 +5,4 @@ pub returns-then-curves-eq15 : goal.returns-then-curves-eq15
 returns-then-curves-eq15 g c =
     let S = g.S.Source in
     curves_refused c.args.sent (S.tape c.args.source.now) (S.tape c.read_number.new.source) (S.tape c.go_back.new.self) c.in_ok-curves.curves c.position-position.result c.go_back.result
-    c.if_sent.true c.if-curves-eq15.true c.position-position.ensures (S.within c.args.source.now) c.in_ok-curves.ensures c.go_back.ensures
+    c.if-sent.true c.if-curves-eq15.true c.position-position.ensures (S.within c.args.source.now) c.in_ok-curves.ensures c.go_back.ensures

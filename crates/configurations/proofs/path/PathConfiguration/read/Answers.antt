@@ -40,7 +40,7 @@ invariant_of-result g c =
     let t = S.tape c.or_back.new.source in
     let v = c.in_ok-fields.fields in
     let h = (rw c.in_ok-fields.was at (reads g (goal.at.invariant_of-result g c).After-or_back)) in
-    ((configuration_exact s.position v (left s) (left t) (read_ok (one_configuration s.position (left s)) s t v h).0).0, tt)
+    record { lawful = (configuration_exact s.position v (left s) (left t) (read_ok (one_configuration s.position (left s)) s t v h).0).0 }
 
 pub returns : goal.returns
 returns g c =

@@ -1,4 +1,4 @@
-use Rattle.std.proofs.Common.{◌≤◌, sym, ◌∙◌, arith}
+use Rattle.std.proofs.Common.{◌≤◌, sym, arith}
 use Rattle.transforms.proofs.Skews.{placed_skew}
 use Rattle.transforms.proofs.steps.Transform.placed.Goals as goal
 
