@@ -1,7 +1,7 @@
 -- Only levels and the end word are read.
-use Rattle.std.specs.Prelude.{◌≡◌, ℕ, ◌%◌, ◌^◌, ◌<◌, ◌≤◌, Bool, true, false, cond, List, ◌++◌, length, take, drop, Some, None, Option, ◌==◌, nat_le, nat_lt, refl}
+use Rattle.std.specs.Prelude.{◌≡◌, ℕ, ◌<◌, Bool, true, false, cond, List, ◌++◌, take, drop, Some, None, Option, ◌==◌, nat_le, nat_lt, refl}
 use Rattle.std.proofs.Common.{sym, ap, ◌∙◌, arith, take-append-drop, length-take-le}
-use Rattle.std.proofs.lemmas.Bool.{eqb-true, eqb-false, leb-true, lt-ltb, and_from}
+use Rattle.std.proofs.lemmas.Bool.{eqb-true, eqb-false, lt-ltb, and_from}
 use Rattle.bits.specs.Codes.{fixed, number}
 use Rattle.bits.specs.Stores.{Parse, got, refused, one_field}
 use Rattle.bits.proofs.Codes.{fixed_number}
@@ -10,11 +10,11 @@ use Rattle.lengths.specs.declared.faults.NumberFault.TheVariants.{Store, Range}
 use Rattle.lengths.proofs.Parts.{piece_lt, piece_whole}
 use Rattle.items.specs.declared.faults.ListFault.{ListFault}
 use Rattle.items.specs.declared.faults.ListFault.TheVariants.{Number}
-use Rattle.items.specs.Kinds.{lawful, Lawful, spelled, ReadExact}
+use Rattle.items.specs.Kinds.{Lawful, spelled, ReadExact}
 use Rattle.items.proofs.SequenceLaws.{carried_got, followed_got}
 use Rattle.sample_items.specs.declared.Level.{Level}
 use Rattle.sample_items.specs.declared.Highest.{Highest}
-use Rattle.sample_items.specs.Levels.{levels, level_of, one_level}
+use Rattle.sample_items.specs.Levels.{levels, level_of}
 
 -- three bits that were taken are those of their number
 taken : (at v : ℕ) (bits rest : List Bool) → one_field 3 at bits ≡ got v rest → (v < 8) × (bits ≡ fixed 3 v ++ rest)

@@ -1,5 +1,5 @@
 -- A small kind of item: levels in three bits, up to a highest one; 111 is the end word.
-use Rattle.std.specs.Prelude.{ℕ, Bool, true, false, cond, ◌&&◌, List, Some, None, Option, ◌==◌, nat_le, nat_lt}
+use Rattle.std.specs.Prelude.{ℕ, Bool, true, cond, List, Some, None, Option, ◌==◌, nat_le, nat_lt}
 use Rattle.bits.specs.Codes.{fixed}
 use Rattle.bits.specs.Stores.{Parse, got, refused}
 use Rattle.lengths.specs.declared.faults.NumberFault.TheVariants.{Range}

@@ -1,6 +1,6 @@
 use Rattle.std.proofs.Common.{◌+◌, ◌<◌, ◌++◌, get_or, ap, ◌∙◌, arith}
 use Rattle.words.specs.Words.{word}
-use Rattle.transforms.specs.Records.{unused, marked, six_of, following}
+use Rattle.transforms.specs.Records.{unused, six_of, following}
 use Rattle.transform_items.specs.Transforms.{argument_code, mark_code, transform_code}
 use Rattle.transform_items.proofs.Writing.{rest_from, mark_length, sound_at, rest_more, rest_none, owes_all, owes_less, owes_none, owes_on, owes_room, word_written, first_written, after_mark}
 use Rattle.transform_items.proofs.TransformsItemKind.append.Goals as goal

@@ -13,4 +13,4 @@ invariant_of-result c =
     let s = some_words c.args.configuration.fields in
     let v = c.count_before-count.ensures.value in
     let e = c.ilog2-width.ensures in
-    (omega arith, (log_only k n (omega arith) (e.power_le, omega (arith, pow-suc 2 k, e.next-power-gt)), tt))
+    record { some = omega arith; short = log_only k n (omega arith) (e.power_le, omega (arith, pow-suc 2 k, e.next_power_gt)) }
