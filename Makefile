@@ -1,9 +1,9 @@
-# make run: proves what the program needs, builds it and runs it.  make test: the whole gate.
+# make run: proves what two programs need, builds and runs them.  make test: the whole gate.
 .PHONY: run test
 
 run:
-	rt check bracket
-	./target/bin/bracket
+	cd crates/bracket && rt run
+	cd crates/path_outline && rt run
 
 test:
 	.ci/run

@@ -4,7 +4,8 @@
 usage: python3 tools/respell.py [FOLDER]      once; FOLDER: the top of a checkout, otherwise this one's
 
 tools/names.txt has a line for each name: as it was, and as it is. A name is turned where it stands whole in a file of specs/ or proofs/, and
-in src/ in a `ghost use`, a clause or a ghost item. Functions, strings and must-fail edits stay as they are.
+in src/ in a `ghost use`, a clause or a ghost item. Functions, strings and must-fail edits stay as they are. Some names of today are old names of
+something else, so a tree that was turned already is left alone.
 """
 import os
 import re
@@ -35,21 +36,34 @@ def in_source(text, table):
     return "".join(out)
 
 
-def main(argv):
-    top = argv[0] if argv else os.path.dirname(HERE)
-    table = names()
+def texts(top):
     for folder, dirs, files in os.walk(os.path.join(top, "crates")):
         dirs[:] = sorted(d for d in dirs if d != "out")
         for name in sorted(files):
-            path = os.path.join(folder, name)
-            if not name.endswith((".antt", ".rt")):
-                continue
-            with open(path, encoding="utf-8") as f:
-                old = f.read()
-            new = respelled(old, table) if name.endswith(".antt") else in_source(old, table)
-            if new != old:
-                with open(path, "w", encoding="utf-8") as f:
-                    f.write(new)
+            if name.endswith((".antt", ".rt")):
+                path = os.path.join(folder, name)
+                with open(path, encoding="utf-8") as f:
+                    yield path, f.read()
+
+
+def turned(top, table):
+    """Whether no definition of specs/ has a name of the old spelling any more."""
+    old = {name for name in table if not re.fullmatch(r"[a-z0-9_]+", name)}
+    specs = [text for path, text in texts(top) if f"{os.sep}specs{os.sep}" in path]
+    return not any(found in old for text in specs for found in NAME.findall(text))
+
+
+def main(argv):
+    top = argv[0] if argv else os.path.dirname(HERE)
+    table = names()
+    if turned(top, table):
+        print("every name has the spelling of today: nothing to do")
+        return 0
+    for path, old in list(texts(top)):
+        new = respelled(old, table) if path.endswith(".antt") else in_source(old, table)
+        if new != old:
+            with open(path, "w", encoding="utf-8") as f:
+                f.write(new)
     return 0
 
 

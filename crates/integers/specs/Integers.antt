@@ -12,7 +12,7 @@ use Rattle.lengths.specs.declared.Mode.TheVariants.{Absolute, Relative}
 use Rattle.lengths.specs.Lengths.{largest}
 use Rattle.naturals.specs.Naturals.{ones, natural_code, pieces, sum_limit}
 
--- a value lies from -valueLimit to value_limit - 1
+-- a value lies from -value_limit to value_limit - 1
 abbrev pub value_limit : ℕ
 value_limit = 1048576
 

@@ -23,7 +23,7 @@ pub trait ItemKind {
     /// The most items of a list.
     const LIMIT: usize;
 
-    // What `LIMIT` is, for clauses, which cannot name it.
+    // What `LIMIT` is, for clauses.
     ghost limit: { ℕ };
 
     ghost few: { limit ≤ 65536 };
