@@ -43,7 +43,7 @@ uses_mode c (Some Relative) = uses_relative c.flags c.mode
 uses_mode c None = true
 
 abbrev pub is_available : PathFields → Entry → Bool
-is_available c e = uses_mode c e.0 && allowed c e.3
+is_available c e = uses_mode c e.mode && allowed c e.choice
 
 -- for each row of a table whether it is available
 abbrev pub choose : PathFields → List Entry → List Bool

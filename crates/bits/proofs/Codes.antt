@@ -1,5 +1,5 @@
 -- Laws of bits and numbers.
-use Rattle.std.proofs.Common.{◌≡◌, ℕ, zero, suc, ◌+◌, ◌-◌, ◌*◌, ◌/◌, ◌%◌, ◌^◌, ◌<◌, ◌≤◌, Bool, true, false, eqb, List, [], ◌∷◌, ◌++◌, length, sym, refl, ap, ◌∙◌, append_assoc, mod-eq_of_lt, mul_assoc, mul_comm, pow-suc, add-one, arith, length-append, pow_mono}
+use Rattle.std.proofs.Common.{◌≡◌, ℕ, zero, suc, ◌+◌, ◌-◌, ◌*◌, ◌/◌, ◌%◌, ◌^◌, ◌<◌, ◌≤◌, Bool, true, false, eqb, List, [], ◌∷◌, ◌++◌, length, take, sym, refl, ap, ◌∙◌, append_assoc, mod-eq_of_lt, mul_assoc, mul_comm, pow-suc, add-one, arith, length-append, length-take, pow_mono}
 use native.Mathlib.Nat.{div-eq_of_lt, mul-add-div_right}
 use Rattle.std.proofs.lemmas.Nat.{pow_pos, mod-pow-add, shr_high}
 use Rattle.std.proofs.lemmas.List.{append-nil}
@@ -39,6 +39,19 @@ pub number_lt : (bs : List Bool) → number bs < 2 ^ length bs
 number_lt [] = omega arith
 number_lt (true ∷ bs) = omega (arith, number_lt bs, pow-suc 2 (length bs))
 number_lt (false ∷ bs) = omega (arith, number_lt bs, pow-suc 2 (length bs))
+
+-- the number of at most k bits
+pub number_take : (k : ℕ) (bs : List Bool) → number (take k bs) < 2 ^ k
+number_take k bs =
+    let m : length (take k bs) ≤ k = simp length-take (omega arith) in
+    omega (arith, number_lt (take k bs), pow_mono m)
+
+-- the low 32 bits are all of it
+pub number_whole : (k : ℕ) (bs : List Bool) → k ≤ 32 → number (take k bs) % 2 ^ 32 ≡ number (take k bs)
+number_whole k bs h =
+    let m : 2 ^ k ≤ 2 ^ 32 = pow_mono h in
+    let l = number_take k bs in
+    mod-eq_of_lt (omega arith)
 
 -- one bit more at the end
 pub number_push : (bs : List Bool) (b : Bool) → number (bs ++ b ∷ []) ≡ 2 * number bs + number (b ∷ [])

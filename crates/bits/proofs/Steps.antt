@@ -1,18 +1,19 @@
 -- Laws of reading.
-use Rattle.std.proofs.Common.{◌≡◌, ℕ, zero, suc, ◌+◌, ◌*◌, ◌%◌, ◌^◌, ◌<◌, ◌≤◌, Bool, true, false, cond, ltb, List, [], ◌∷◌, ◌++◌, length, take, drop, Ok, Err, Result, sym, refl, ap, ◌∙◌, add-one, arith, length-drop}
+use Rattle.std.proofs.Common.{◌≡◌, ℕ, zero, suc, ◌+◌, ◌*◌, ◌%◌, ◌^◌, ◌<◌, ◌≤◌, Bool, true, false, cond, ltb, List, [], ◌∷◌, ◌++◌, length, take, drop, Ok, Err, Result, sym, refl, ap, ◌∙◌, append_assoc, add-one, arith, length-append, length-drop}
 use mir.Val.{bool_byte}
+use Rattle.std.proofs.lemmas.List.{append-nil}
 use Rattle.std.proofs.lemmas.Bool.{lt-ltb, le-ltb, ltb-true, ltb-false}
 use Rattle.bits.specs.declared.StoreFault.TheVariants.{End}
 use Rattle.bits.specs.Codes.{number}
 use Rattle.bits.specs.declared.StoreFault.{StoreFault}
-use Rattle.bits.specs.Stores.{Content, Put, Tape, left, Parse, got, refused, ReadAs, one_bit, one_field}
+use Rattle.bits.specs.Stores.{Content, HasRoom, appended, Tape, left, Parse, got, refused, mapped, ReadAs, one_bit, one_field}
 use Rattle.bits.proofs.Codes.{number_push}
 
 next : (i : ℕ) (xs : List Bool) (b : Bool) (ys : List Bool) → drop i xs ≡ b ∷ ys
     → (i < length xs) × (drop (suc i) xs ≡ ys) × (take (suc i) xs ≡ take i xs ++ b ∷ [])
-next zero [] b ys e = let z : ◌≡◌ {A = ℕ} 0 1 = cc in absurd (omega arith)
+next zero [] b ys e = cc
 next zero (x ∷ xs) b ys e = (omega arith, (cc), (cc))
-next (suc i) [] b ys e = let z : ◌≡◌ {A = ℕ} 0 1 = cc in absurd (omega arith)
+next (suc i) [] b ys e = cc
 next (suc i) (x ∷ xs) b ys e = let n = next i xs b ys e in (omega arith, n.1, ap (λ zs. x ∷ zs) n.2)
 
 -- the bit at i of bits that are read
@@ -26,18 +27,38 @@ pub bit_value : (b : Bool) → (bool_byte b ≡ number (b ∷ [])) × (bool_byte
 bit_value true = (refl, omega arith)
 bit_value false = (refl, omega arith)
 
--- a sink and a source by their parts
+-- a sink by its parts
 pub content_is : (t : Content) (bits : List Bool) (capacity : ℕ) → t.bits ≡ bits → t.capacity ≡ capacity → t ≡ record { bits = bits; capacity = capacity }
 content_is t bits capacity p q = ap (λ b. record { bits = b; capacity = t.capacity }) p ∙ ap (λ n. record { bits = bits; capacity = n }) q
 
-pub tape_is : (t : Tape) (bits : List Bool) (position : ℕ) → t.bits ≡ bits → t.position ≡ position → t ≡ record { bits = bits; position = position }
-tape_is t bits position p q = ap (λ b. record { bits = b; position = t.position }) p ∙ ap (λ n. record { bits = bits; position = n }) q
+-- bits that are put one after the other
+pub appended_more : (s t u : Content) (xs ys : List Bool) → t ≡ appended s xs → u ≡ appended t ys → u ≡ appended s (xs ++ ys)
+appended_more s t u xs ys p q =
+    q ∙ ap (λ v. appended v ys) p ∙ ap (λ bs. record { bits = bs; capacity = s.capacity }) (append_assoc s.bits xs ys)
 
--- where there is room, the bits are put
-pub put_done : {U : Type 0} (r : Result U StoreFault) (s t : Content) (more : List Bool) → Put s more r t → length s.bits + length more ≤ s.capacity
-    → t ≡ record { bits = s.bits ++ more; capacity = s.capacity }
-put_done (Ok u) s t more p room = p.1
-put_done (Err e) s t more p room = absurd (omega (arith, p.0))
+-- where there was room for all of them, there is room for the next ones
+pub room_more : (s t : Content) (xs ys all : List Bool) → HasRoom s all → t ≡ appended s xs → length xs + length ys ≤ length all → HasRoom t ys
+room_more s t xs ys all h p l = rw p (let n = length-append s.bits xs in omega (arith, h))
+
+-- bits of which a front has been put: what is due
+pub record Due (s : Content) (all : List Bool) (t : Content) (rest : List Bool) : Type 0 where
+  pub is : appended t rest ≡ appended s all
+
+module _ (s : Content) (all : List Bool) (t : Content) where
+  pub due_as : {xs : List Bool} (ys : List Bool) → Due s all t xs → xs ≡ ys → Due s all t ys
+  due_as ys due e = record { is = ap (appended t) (sym e) ∙ due.is }
+
+  pub due_room : (xs rest : List Bool) → Due s all t (xs ++ rest) → HasRoom s all → HasRoom t xs
+  due_room xs rest due h =
+      let l = ap (λ z. length z.bits) due.is in
+      let m = ap (λ z. z.capacity) due.is in
+      omega (arith, h, length-append t.bits (xs ++ rest), length-append xs rest, length-append s.bits all)
+
+  pub due_put : (xs rest : List Bool) → Due s all t (xs ++ rest) → (u : Content) → u ≡ appended t xs → Due s all u rest
+  due_put xs rest due u p = record { is = ap (λ z. appended z rest) p ∙ appended_more t _ _ xs rest refl refl ∙ due.is }
+
+  pub due_none : Due s all t [] → t ≡ appended s all
+  due_none due = ap (λ bs. record { bits = bs; capacity = t.capacity }) (sym (append-nil t.bits)) ∙ due.is
 
 -- what a call that reads did, by what reading makes of the bits
 module _ {E A : Type 0} (x : Parse E A) (s t : Tape) where
@@ -55,19 +76,19 @@ read_ok (got b rest) s t a h =
     let e : ◌≡◌ {A = Result _ _} (Ok a) (Ok b) = h.0 in
     let l = h.2 in
     ((cc), h.1, ap (λ xs. t.position + length xs) l ∙ h.3)
-read_ok (refused f) s t a h = let e = h.0 in let z : ◌≡◌ {A = ℕ} 0 1 = cc in absurd (omega arith)
+read_ok (refused f) s t a h = let e = h.0 in cc
 
 pub read_err : {E A : Type 0} (x : Parse E A) (s t : Tape) (f : E) → ReadAs x s (Err f) t → (x ≡ refused f) × (t ≡ s)
-read_err (got b rest) s t f h = let e = h.0 in let z : ◌≡◌ {A = ℕ} 0 1 = cc in absurd (omega arith)
+read_err (got b rest) s t f h = let e = h.0 in cc
 read_err (refused g) s t f h = let e = h.0 in ((cc), h.1)
 
 pub bit_got : (p : ℕ) (xs : List Bool) (b : Bool) (rest : List Bool) → one_bit p xs ≡ got b rest → xs ≡ b ∷ rest
-bit_got p [] b rest e = let z : ◌≡◌ {A = ℕ} 0 1 = cc in absurd (omega arith)
+bit_got p [] b rest e = cc
 bit_got p (x ∷ xs) b rest e = cc
 
 pub bit_refused : (p : ℕ) (xs : List Bool) (f : StoreFault) → one_bit p xs ≡ refused f → (xs ≡ []) × (f ≡ End p)
 bit_refused p [] f e = (refl, (cc))
-bit_refused p (x ∷ xs) f e = let z : ◌≡◌ {A = ℕ} 0 1 = cc in absurd (omega arith)
+bit_refused p (x ∷ xs) f e = cc
 
 pub field_got : (w p : ℕ) (xs : List Bool) → w ≤ length xs → one_field w p xs ≡ got (number (take w xs) % 2 ^ 32) (drop w xs)
 field_got w p xs h = rw (le-ltb (length xs) w h)
@@ -82,7 +103,7 @@ field_ok w p xs v rest e = go (ltb (length xs) w) refl e
   where
     go : (b : Bool) → ltb (length xs) w ≡ b → ◌≡◌ {A = Parse StoreFault ℕ} (cond b (refused (End p)) (got (number (take w xs) % 2 ^ 32) (drop w xs))) (got v rest)
         → (w ≤ length xs) × (v ≡ number (take w xs) % 2 ^ 32) × (rest ≡ drop w xs)
-    go true l e = let z : ◌≡◌ {A = ℕ} 0 1 = cc in absurd (omega arith)
+    go true l e = cc
     go false l e = (ltb-false (length xs) w l, (cc), (cc))
 
 pub field_err : (w p : ℕ) (xs : List Bool) (f : StoreFault) → one_field w p xs ≡ refused f → (length xs < w) × (f ≡ End p)
@@ -91,4 +112,9 @@ field_err w p xs f e = go (ltb (length xs) w) refl e
     go : (b : Bool) → ltb (length xs) w ≡ b → ◌≡◌ {A = Parse StoreFault ℕ} (cond b (refused (End p)) (got (number (take w xs) % 2 ^ 32) (drop w xs))) (refused f)
         → (length xs < w) × (f ≡ End p)
     go true l e = (ltb-true (length xs) w l, (cc))
-    go false l e = let z : ◌≡◌ {A = ℕ} 0 1 = cc in absurd (omega arith)
+    go false l e = cc
+
+-- what was read, by what is made of it
+pub mapped_got : {E A B : Type 0} (f : A → B) (x : Parse E A) (v : B) (rest : List Bool) → mapped f x ≡ got v rest → (a : A) × (x ≡ got a rest) × (v ≡ f a)
+mapped_got f (got a more) v rest e = (a, (cc), (cc))
+mapped_got f (refused z) v rest e = cc

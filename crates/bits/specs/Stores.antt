@@ -9,9 +9,17 @@ pub record Content : Type 0 where
   pub bits : List Bool
   pub capacity : ℕ
 
+-- there is room for more bits
+abbrev pub HasRoom : Content → List Bool → Type 0
+HasRoom s more = length s.bits + length more ≤ s.capacity
+
+-- the sink with more bits after those held
+abbrev pub appended : Content → List Bool → Content
+appended s more = record { bits = s.bits ++ more; capacity = s.capacity }
+
 -- `more` goes to the end of the bits held if there is room for all of it; otherwise the sink is full and stays as it is
 abbrev pub Put : {U : Type 0} → Content → List Bool → Result U StoreFault → Content → Type 0
-Put s more (Ok _) t = (length s.bits + length more ≤ s.capacity) × (t ≡ record { bits = s.bits ++ more; capacity = s.capacity })
+Put s more (Ok _) t = HasRoom s more × (t ≡ appended s more)
 Put s more (Err e) t = (s.capacity < length s.bits + length more) × (e ≡ Full (length s.bits)) × (t ≡ s)
 
 -- is there room for `count` bits more?
@@ -32,6 +40,11 @@ left t = drop t.position t.bits
 pub data Parse (E A : Type 0) : Type 0 where
   got : A → List Bool → Parse E A
   refused : E → Parse E A
+
+-- a value that is read, as another
+abbrev pub mapped : {E A B : Type 0} → (A → B) → Parse E A → Parse E B
+mapped f (got a rest) = got (f a) rest
+mapped f (refused e) = refused e
 
 -- a call that reads answers with the value and stands at the bits after it; or it answers with the refusal and the source stays as it is
 abbrev pub ReadAs : {E A : Type 0} → Parse E A → Tape → Result A E → Tape → Type 0

@@ -4,11 +4,13 @@
 ghost use Rattle.std.specs.Prelude.{◌≡◌, ℕ, ◌+◌, ◌-◌, ◌*◌, ◌<◌, ◌≤◌, List, [], ◌∷◌, ◌++◌, length, is_ok, refl};
 ghost use Rattle.std.proofs.Common.{◌∙◌};
 ghost use Rattle.bits.specs.Codes.{bit as bit_of, fixed};
-ghost use Rattle.bits.specs.Stores.{Content, Room, Put, Tape, left, ReadAs, Reads, one_bit, one_field, Back, returned};
+ghost use Rattle.bits.specs.Stores.{Content, HasRoom, appended, Room, Put, Tape, left, ReadAs, Reads, one_bit, one_field, Back, returned};
 ghost use Rattle.bits.specs.Faults.{store_told, store_at};
 
+mod messages;
+
 /// Why a sink or a source refuses a call. Each case tells the place, as a bit position.
-#[derive(Clone, Copy)]
+#[derive(Clone, Copy, Debug, PartialEq, Eq)]
 pub enum StoreFault {
     /// The sink has no room for the bits: the place where the first of them would go (10).
     Full { position: usize },
@@ -19,7 +21,7 @@ pub enum StoreFault {
 }
 
 /// The layer in which a fault arose.
-#[derive(Clone, Copy)]
+#[derive(Clone, Copy, Debug, PartialEq, Eq)]
 pub enum Layer {
     Store,
     Number,
@@ -28,9 +30,9 @@ pub enum Layer {
 }
 
 /// What a fault tells.
-#[derive(Clone, Copy)]
+#[derive(Clone, Copy, Debug, PartialEq, Eq)]
 pub struct Told {
-    /// The refusal number.
+    /// The refusal number: what is printed and quoted, so a number here too, and an enum in each fault.
     pub number: u8,
     /// The layer in which it arose.
     pub layer: Layer,
@@ -43,23 +45,16 @@ impl StoreFault {
     pub fn told(&self) -> Told
         ensures { result ≡ store_told self.now }
     {
+        let (number, position) = match *self {
+            StoreFault::Full { position } => (10, position),
+            StoreFault::End { position } => (17, position),
+            StoreFault::Ahead { position } => (27, position),
+        };
         let layer = Layer::Store;
-        match *self {
-            StoreFault::Full { position } => Told {
-                number: 10,
-                layer,
-                position,
-            },
-            StoreFault::End { position } => Told {
-                number: 17,
-                layer,
-                position,
-            },
-            StoreFault::Ahead { position } => Told {
-                number: 27,
-                layer,
-                position,
-            },
+        Told {
+            number,
+            layer,
+            position,
         }
     }
 
@@ -76,7 +71,7 @@ impl StoreFault {
 }
 
 /// Whether the bit of weight 2 ^ `k` is set.
-fn has_bit(value: u32, k: u8) -> bool
+pub fn has_bit(value: u32, k: u8) -> bool
     ensures { result ≡ bit_of k value }
 {
     k < 32 && (value >> k) % 2 == 1
@@ -174,10 +169,9 @@ pub trait Source {
 
 /// Puts a field where room for it is known. For the layers above, which ask for room once.
 pub fn append<S: Sink>(sink: &mut S, width: u8, value: u32)
-    requires { length (S.content sink.old).bits + width ≤ (S.content sink.old).capacity }
+    requires { HasRoom (S.content sink.old) (fixed width value) }
     ensures kept { S.kept sink.old sink.new }
-    ensures capacity { (S.content sink.new).capacity ≡ (S.content sink.old).capacity }
-    ensures bits { (S.content sink.new).bits ≡ (S.content sink.old).bits ++ fixed width value }
+    ensures content { S.content sink.new ≡ appended (S.content sink.old) (fixed width value) }
 {
     let _ = sink.put_field(width, value);
 }
@@ -186,10 +180,7 @@ pub fn append<S: Sink>(sink: &mut S, width: u8, value: u32)
 pub fn take_part<S: Source>(source: &mut S, width: u8, field: usize) -> Result<u32, StoreFault>
     ensures { ReadAs (one_field width field (left (S.tape source.old))) (S.tape source.old) result (S.tape source.new) }
 {
-    match source.take_field(width) {
-        Ok(value) => Ok(value),
-        Err(fault) => Err(fault.at(field)),
-    }
+    source.take_field(width).map_err(|fault| fault.at(field))
 }
 
 /// Hands an answer on; where it is a refusal, the source goes back to `start` first.

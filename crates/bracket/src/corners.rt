@@ -1,11 +1,12 @@
 //! The corners of the bracket, written and read.
 ghost use Rattle.std.specs.Prelude.{◌≡◌, ◌++◌, OnOk};
-ghost use Rattle.bracket.specs.Outline.{corner_bits, corners_bits};
+ghost use Rattle.bracket.specs.Outline.{default_length, corner_bits, corners_bits};
 
 use bits::{Sink, Source};
-use integers::{read_integer, write_integer};
+use integers::Integers;
+use lengths::codes::Code;
 use lengths::faults::{NumberFault, WriteFault};
-use lengths::{CodeLength, Defaults, Mode};
+use lengths::{Defaults, Mode};
 
 /// A corner by its two coordinates: from the origin, or from the corner before.
 #[derive(Clone, Copy)]
@@ -15,79 +16,46 @@ pub struct Corner {
     pub y: i32,
 }
 
+/// A corner of the outline.
+macro_rules! corner {
+    ($mode:ident, $x:literal, $y:literal) => {
+        Corner {
+            mode: Mode::$mode,
+            x: $x,
+            y: $y,
+        }
+    };
+}
+
 /// The outline of the bracket with a lug at its back, and then the cut-out in its wall plate.
 pub const CORNERS: [Corner; 14] = [
-    Corner {
-        mode: Mode::Absolute,
-        x: 0,
-        y: 0,
-    },
-    Corner {
-        mode: Mode::Absolute,
-        x: 300,
-        y: 0,
-    },
-    Corner {
-        mode: Mode::Absolute,
-        x: 300,
-        y: 40,
-    },
-    Corner {
-        mode: Mode::Absolute,
-        x: 127,
-        y: 40,
-    },
-    Corner {
-        mode: Mode::Relative,
-        x: -8,
-        y: 9,
-    },
-    Corner {
-        mode: Mode::Relative,
-        x: -7,
-        y: 7,
-    },
-    Corner {
-        mode: Mode::Absolute,
-        x: 40,
-        y: 126,
-    },
-    Corner {
-        mode: Mode::Absolute,
-        x: 40,
-        y: 300,
-    },
-    Corner {
-        mode: Mode::Absolute,
-        x: 0,
-        y: 300,
-    },
-    Corner {
-        mode: Mode::Absolute,
-        x: -6,
-        y: -1,
-    },
-    Corner {
-        mode: Mode::Absolute,
-        x: 12,
-        y: 60,
-    },
-    Corner {
-        mode: Mode::Relative,
-        x: 14,
-        y: 0,
-    },
-    Corner {
-        mode: Mode::Relative,
-        x: 0,
-        y: 14,
-    },
-    Corner {
-        mode: Mode::Relative,
-        x: -14,
-        y: 0,
-    },
+    corner!(Absolute, 0, 0),
+    corner!(Absolute, 300, 0),
+    corner!(Absolute, 300, 40),
+    corner!(Absolute, 127, 40),
+    corner!(Relative, -8, 9),
+    corner!(Relative, -7, 7),
+    corner!(Absolute, 40, 126),
+    corner!(Absolute, 40, 300),
+    corner!(Absolute, 0, 300),
+    corner!(Absolute, -6, -1),
+    corner!(Absolute, 12, 60),
+    corner!(Relative, 14, 0),
+    corner!(Relative, 0, 14),
+    corner!(Relative, -14, 0),
 ];
+
+impl Corner {
+    /// The code of its coordinates: integers in its mode, at the default length of that mode.
+    pub fn integers(self, defaults: &Defaults) -> Integers
+        ensures mode { result.mode ≡ self.mode }
+        ensures code_length { result.code_length.bits ≡ default_length defaults.now self.mode }
+    {
+        let mode = self.mode;
+        let code_length = defaults.of(mode);
+        Integers { mode, code_length }
+    }
+}
 
 /// Writes both coordinates of a corner.
 fn write_corner<S: Sink>(
@@ -96,11 +64,11 @@ fn write_corner<S: Sink>(
     corner: Corner,
 ) -> Result<(), WriteFault>
     ensures kept { S.kept sink.old sink.new }
-    ensures bits { OnOk result ((S.content sink.new).bits ≡ (S.content sink.old).bits ++ corner_bits defaults.now.absolute.bits defaults.now.relative.bits corner) }
+    ensures bits { OnOk result ((S.content sink.new).bits ≡ (S.content sink.old).bits ++ corner_bits defaults.now corner) }
 {
-    let code_length = defaults.of(corner.mode);
-    write_integer(sink, corner.mode, code_length, corner.x)?;
-    write_integer(sink, corner.mode, code_length, corner.y)?;
+    let integers = corner.integers(defaults);
+    integers.write(sink, corner.x)?;
+    integers.write(sink, corner.y)?;
     Ok(())
 }
 
@@ -111,10 +79,10 @@ pub fn write_corners<S: Sink>(
     corners: &[Corner],
 ) -> Result<(), WriteFault>
     ensures kept { S.kept sink.old sink.new }
-    ensures bits { OnOk result ((S.content sink.new).bits ≡ (S.content sink.old).bits ++ corners_bits defaults.now.absolute.bits defaults.now.relative.bits corners.now) }
+    ensures bits { OnOk result ((S.content sink.new).bits ≡ (S.content sink.old).bits ++ corners_bits defaults.now corners.now) }
 {
-    for i in 0..corners.len() {
-        write_corner(sink, defaults, corners[i])?;
+    for corner in corners {
+        write_corner(sink, defaults, *corner)?;
     }
     Ok(())
 }
@@ -128,13 +96,9 @@ pub struct Reading {
 }
 
 /// Reads one coordinate.
-pub fn read_one<S: Source>(
-    source: &mut S,
-    mode: Mode,
-    code_length: CodeLength,
-) -> Result<Reading, NumberFault> {
+pub fn read_one<S: Source>(source: &mut S, integers: Integers) -> Result<Reading, NumberFault> {
     let from = S::position(source);
-    let value = read_integer(source, mode, code_length)?;
+    let value = integers.read(source)?;
     let to = S::position(source);
     Ok(Reading { value, from, to })
 }

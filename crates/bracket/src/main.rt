@@ -5,17 +5,17 @@ use bits::{Sink, Source};
 use chain::{ChainSink, ChainSource};
 use corners::{CORNERS, write_corners};
 use flat::{FlatSink, FlatSource};
-use lengths::faults::WriteFault;
-use lengths::{CodeLength, Defaults};
+use integers::Integers;
+use lengths::{Defaults, Mode};
+use reading::{count_same, tell_corners};
 use refusals::{ended_source, full_sink, wrong_chain, wrong_defaults, wrong_length};
 use std::io;
-use telling::{
-    count_same, print_bits, tell_answer, tell_attempt, tell_corners, tell_fault, tell_refusal,
-};
+use telling::attempts::{tell_answer, tell_attempt};
+use telling::texts::print_bits;
 
 mod corners;
+mod reading;
 mod refusals;
-mod telling;
 
 /// The index of the chain's first block.
 const FIRST: u16 = 3;
@@ -28,14 +28,12 @@ fn lay(bytes: &mut [u8; 160]) {
 }
 
 /// Writes the corners into a sink and tells what came of it; answers how many bits are held then.
-fn write_all<S: Sink>(rt: &HostRuntime, sink: &mut S, defaults: &Defaults) -> io::Result<usize>
+fn write_all<S: Sink>(rt: &impl Print, sink: &mut S, defaults: &Defaults) -> io::Result<usize>
     ensures { S.kept sink.old sink.new }
 {
     let capacity = S::capacity(sink);
-    match write_corners(sink, defaults, &CORNERS) {
-        Ok(()) => {}
-        Err(WriteFault::Value) => tell_refusal(rt, 15)?,
-        Err(WriteFault::Store(fault)) => tell_fault(rt, fault.told())?,
+    if let Err(fault) = write_corners(sink, defaults, &CORNERS) {
+        println!(rt; "    refused with {fault}")?;
     }
     let held = S::held(sink);
     println!(rt; "  {held} of {capacity} bits are held.")?;
@@ -43,15 +41,15 @@ fn write_all<S: Sink>(rt: &HostRuntime, sink: &mut S, defaults: &Defaults) -> io
 }
 
 /// Reads the corners back from a source and tells whether they are the same.
-fn read_all<S: Source>(rt: &HostRuntime, source: &mut S, defaults: &Defaults) -> io::Result<()> {
+fn read_all<S: Source>(rt: &impl Print, source: &mut S, defaults: &Defaults) -> io::Result<()> {
     match count_same(source, defaults) {
         Ok(same) => println!(rt; "  {same} of 28 coordinates are read as they were written."),
-        Err(fault) => tell_fault(rt, fault.told()),
+        Err(fault) => println!(rt; "    refused with {fault}"),
     }
 }
 
 /// The flat run: written, each corner told with its bits, and read back. Answers how many bits are held.
-fn flat_run(rt: &HostRuntime, bytes: &mut [u8; 40], defaults: &Defaults) -> io::Result<usize> {
+fn flat_run(rt: &impl Print, bytes: &mut [u8; 40], defaults: &Defaults) -> io::Result<usize> {
     println!(rt; "Into a flat run of 40 bytes:")?;
     let mut sink = FlatSink::over(bytes, 0);
     let held = write_all(rt, &mut sink, defaults)?;
@@ -62,7 +60,7 @@ fn flat_run(rt: &HostRuntime, bytes: &mut [u8; 40], defaults: &Defaults) -> io::
 }
 
 /// The chain: written and read back.
-fn chain_run(rt: &HostRuntime, bytes: &mut [u8; 160], defaults: &Defaults) -> io::Result<()> {
+fn chain_run(rt: &impl Print, bytes: &mut [u8; 160], defaults: &Defaults) -> io::Result<()> {
     println!(rt; "Into a chain in 160 bytes, block 3, then 1, then 4:")?;
     lay(bytes);
     let mut sink = ChainSink::over(bytes, FIRST, 0);
@@ -72,21 +70,11 @@ fn chain_run(rt: &HostRuntime, bytes: &mut [u8; 160], defaults: &Defaults) -> io
 
 /// Whether two sources have the same bits from their positions on, `count` of them.
 fn same_bits<A: Source, B: Source>(a: &mut A, b: &mut B, count: usize) -> bool {
-    for _k in 0..count {
-        match (a.take(), b.take()) {
-            (Ok(x), Ok(y)) => {
-                if x != y {
-                    return false;
-                }
-            }
-            _ => return false,
-        }
-    }
-    true
+    (0..count).all(|_k| matches!((a.take(), b.take()), (Ok(x), Ok(y)) if x == y))
 }
 
 /// Tells whether both stores hold the same bits, and prints them.
-fn tell_stores(rt: &HostRuntime, flat: &[u8], blocks: &[u8], held: usize) -> io::Result<()> {
+fn tell_stores(rt: &impl Print, flat: &[u8], blocks: &[u8], held: usize) -> io::Result<()> {
     let mut linked = ChainSource::over(blocks, FIRST, held);
     if same_bits(&mut FlatSource::over(flat, held), &mut linked, held) {
         println!(rt; "Both stores hold the same {held} bits:")?;
@@ -98,19 +86,19 @@ fn tell_stores(rt: &HostRuntime, flat: &[u8], blocks: &[u8], held: usize) -> io:
 }
 
 /// Tells one refusal of each kind.
-fn tell_refusals(rt: &HostRuntime, code_length: CodeLength) -> io::Result<()> {
+fn tell_refusals(rt: &impl Print, integers: Integers) -> io::Result<()> {
     println!(rt; "What is refused alters nothing:")?;
     tell_attempt(
         rt,
         "A third value of 7 bits into a flat run of 2 bytes",
         "bits held",
-        full_sink(code_length),
+        full_sink(integers),
     )?;
     tell_attempt(
         rt,
         "A value from the bits 000 111111111, of which the first three are read already",
         "position",
-        ended_source(code_length),
+        ended_source(integers),
     )?;
     tell_attempt(
         rt,
@@ -126,19 +114,23 @@ fn tell_refusals(rt: &HostRuntime, code_length: CodeLength) -> io::Result<()> {
     )
 }
 
-fn run(rt: &HostRuntime, defaults: &Defaults) -> io::Result<()> {
+fn run(rt: &impl Print, defaults: &Defaults) -> io::Result<()> {
     let mut flat = [0u8; 40];
     let mut blocks = [0u8; 160];
     let held = flat_run(rt, &mut flat, defaults)?;
     chain_run(rt, &mut blocks, defaults)?;
     tell_stores(rt, &flat, &blocks, held)?;
-    tell_refusals(rt, defaults.absolute)
+    let absolute = Integers {
+        mode: Mode::Absolute,
+        code_length: defaults.absolute,
+    };
+    tell_refusals(rt, absolute)
 }
 
 fn main(rt: HostRuntime) -> io::Result<()> {
     println!(rt; "A wall bracket of 14 corners. Default lengths: 7 absolute, 4 relative.")?;
     match Defaults::new(7, 4) {
         Ok(defaults) => run(&rt, &defaults),
-        Err(fault) => tell_refusal(&rt, fault.number()),
+        Err(fault) => println!(rt; "    refused with {fault}"),
     }
 }

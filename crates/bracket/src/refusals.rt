@@ -1,87 +1,54 @@
 //! One refusal of each kind, and what it left as it was.
-use bits::{Sink, Source, Told};
+use bits::{Sink, Source};
 use flat::{FlatSink, FlatSource};
-use integers::{read_integer, write_integer};
-use lengths::faults::WriteFault;
-use lengths::fields::LengthField;
-use lengths::{CodeLength, Defaults, Mode};
-
-/// A call that should be refused: what it told, and a count before and after it.
-#[derive(Clone, Copy)]
-pub struct Attempt {
-    pub told: Option<Told>,
-    pub before: usize,
-    pub after: usize,
-}
+use integers::Integers;
+use layout::LayoutFault;
+use lengths::codes::Code;
+use lengths::faults::{NumberFault, WriteFault};
+use lengths::fields::LengthFields;
+use lengths::{Defaults, DefaultsFault};
+use telling::attempts::{Attempt, attempt_read};
 
 /// A third value of seven bits into a flat run of sixteen; the counts are those of the bits held.
-pub fn full_sink(code_length: CodeLength) -> Attempt {
+pub fn full_sink(integers: Integers) -> Attempt<WriteFault> {
     let mut bytes = [0u8; 2];
     let mut sink = FlatSink::over(&mut bytes, 0);
-    let _ = write_integer(&mut sink, Mode::Absolute, code_length, 64);
-    let _ = write_integer(&mut sink, Mode::Absolute, code_length, 42);
+    let _ = integers.write(&mut sink, 64);
+    let _ = integers.write(&mut sink, 42);
     let before = sink.held();
-    let told = match write_integer(&mut sink, Mode::Absolute, code_length, 12) {
-        Err(WriteFault::Store(fault)) => Some(fault.told()),
-        _ => None,
-    };
+    let fault = integers.write(&mut sink, 12).err();
     let after = sink.held();
     Attempt {
-        told,
+        fault,
         before,
         after,
     }
 }
 
 /// A value of which only the escape is there, after three bits that were read; the counts are those of the position.
-pub fn ended_source(code_length: CodeLength) -> Attempt {
+pub fn ended_source(integers: Integers) -> Attempt<NumberFault> {
     let bytes = [0b0001_1111u8, 0b1111_0000];
     let mut source = FlatSource::over(&bytes, 12);
     let _ = source.take_field(3);
-    let before = source.position();
-    let told = match read_integer(&mut source, Mode::Absolute, code_length) {
-        Ok(_) => None,
-        Err(fault) => Some(fault.told()),
-    };
-    let after = source.position();
-    Attempt {
-        told,
-        before,
-        after,
-    }
+    attempt_read(&mut source, |source| integers.read(source))
 }
 
 /// A length field that sends 15; the counts are those of the position.
-pub fn wrong_length() -> Attempt {
+pub fn wrong_length() -> Attempt<NumberFault> {
     let bytes = [0b1111_1000u8];
-    let mut source = FlatSource::over(&bytes, 5);
-    let before = source.position();
-    let told = match LengthField::read(&mut source) {
-        Ok(_) => None,
-        Err(fault) => Some(fault.told()),
-    };
-    let after = source.position();
-    Attempt {
-        told,
-        before,
-        after,
-    }
+    attempt_read(&mut FlatSource::over(&bytes, 5), |source| {
+        LengthFields.read(source)
+    })
 }
 
-/// The refusal number of the default lengths 7 and 15.
-pub fn wrong_defaults() -> Option<u8> {
-    match Defaults::new(7, 15) {
-        Ok(_) => None,
-        Err(fault) => Some(fault.number()),
-    }
+/// The refusal of the default lengths 7 and 15.
+pub fn wrong_defaults() -> Option<DefaultsFault> {
+    Defaults::new(7, 15).err()
 }
 
-/// The refusal number of a chain in 64 bytes whose block 1 names itself as the next.
-pub fn wrong_chain() -> Option<u8> {
+/// The refusal of a chain in 64 bytes whose block 1 names itself as the next.
+pub fn wrong_chain() -> Option<LayoutFault> {
     let mut bytes = [0u8; 64];
     bytes[33] = 1;
-    match chain::check(&bytes, 1, 0) {
-        Ok(_) => None,
-        Err(fault) => Some(fault.number()),
-    }
+    chain::check(&bytes, 1, 0).err()
 }

@@ -72,15 +72,6 @@ spots bytes first n i j a l h e =
 
 -- the next bit and its block
 module _ (bytes : List ℕ) (first i block : ℕ) (at : block ≡ met bytes first (i / 240)) where
-  -- where the bit after it stands, in the same block and past its end
-  pub stays : i % 240 ≢ 239 → block ≡ met bytes first ((i + 1) / 240)
-  stays ne = let e : i / 240 ≡ (i + 1) / 240 = omega arith in at ∙ ap (met bytes first) e
-
-  pub moves : i % 240 ≡ 239 → link bytes block ≡ met bytes first ((i + 1) / 240)
-  moves e =
-      let q : i / 240 + 1 ≡ (i + 1) / 240 = omega arith in
-      ap (link bytes) at ∙ sym (met_more bytes first (i / 240)) ∙ ap (met bytes first) q
-
   pub bit_here : bit (7 - i % 240 % 8) (get_or bytes (32 * block + (2 + i % 240 / 8)) 0) ≡ bit_at bytes (spot bytes first i)
   bit_here =
       let p : 32 * block + (2 + i % 240 / 8) ≡ spot bytes first i / 8 = omega arith in

@@ -2,7 +2,7 @@
 //! its other 30 bytes carry 240 bits.
 #![tactic(auto)]
 
-ghost use Rattle.std.specs.Prelude.{◌≡◌, ℕ, ◌*◌, ◌/◌, ◌<◌, ◌≤◌, length, Result, MatchOption};
+ghost use Rattle.std.specs.Prelude.{◌≡◌, ℕ, ◌+◌, ◌*◌, ◌/◌, ◌<◌, ◌≤◌, length, Result, MatchOption};
 ghost use Rattle.layout.specs.declared.LayoutFault.{LayoutFault as Fault};
 ghost use Rattle.chain.specs.Chain.{link as link_of, met, Linked, Chained, spot, chain_bits, Checked, opens_at, laid, ChainKept};
 ghost use Rattle.chain.specs.Laws.{chain_stays, chain_joined};
@@ -21,6 +21,18 @@ fn link(bytes: &[u8], block: usize) -> usize
     ensures { result ≡ link_of bytes.now block }
 {
     bytes[32 * block] as usize * 256 + bytes[32 * block + 1] as usize
+}
+
+/// The block of the bit after one that stands in `block`: the next one in the chain after the last of a block's bits.
+fn block_after(bytes: &[u8], block: usize, bit: usize) -> usize
+    requires { block < length bytes.now / 32 }
+    ensures { (first : ℕ) → block ≡ met bytes.now first (bit / 240) → result ≡ met bytes.now first ((bit + 1) / 240) }
+{
+    if bit % 240 == 239 {
+        link(bytes, block)
+    } else {
+        block
+    }
 }
 
 /// How many blocks the chain has, if it is one. A chain that ends meets no block twice, and one that has not ended
@@ -75,7 +87,7 @@ pub fn check(bytes: &[u8], first: u16, held: usize) -> Result<usize, LayoutFault
     Ok(capacity)
 }
 
-/// A chain as a sink. It knows the block of the next bit, so that a put does not walk the chain.
+/// A chain as a sink, over fixed memory of the host's. Not one type with the flat run's sink, which has no block to know: this one knows the block of the next bit, so that a put does not walk the chain.
 #[derive(Drop)]
 pub struct ChainSink<'a> {
     bytes: &'a mut [u8],
@@ -131,6 +143,14 @@ impl<'a> ChainSink<'a> {
             block,
         }
     }
+
+    /// The block of the bit after the next one.
+    fn next_block(&self) -> usize
+        requires { self.now.held < 240 * self.now.count }
+        ensures { result ≡ met self.now.bytes.now self.now.first ((self.now.held + 1) / 240) }
+    {
+        block_after(self.bytes, self.block, self.held)
+    }
 }
 
 impl<'a> Sink for ChainSink<'a> {
@@ -159,11 +179,7 @@ impl<'a> Sink for ChainSink<'a> {
         }
         let block = self.block;
         let place = held % 240;
-        let next = if place == 239 {
-            self.bytes[32 * block] as usize * 256 + self.bytes[32 * block + 1] as usize
-        } else {
-            block
-        };
+        let next = self.next_block();
         let spot = 256 * block + (16 + place);
         self.bytes[spot / 8] = with_bit(self.bytes[spot / 8], spot % 8, bit);
         self.held = held + 1;
@@ -217,14 +233,9 @@ impl<'a> Source for ChainSource<'a> {
         if position >= self.end {
             return Err(StoreFault::End { position });
         }
-        let block = self.block;
         let place = position % 240;
-        let byte = self.bytes[32 * block + (2 + place / 8)];
-        let next = if place == 239 {
-            link(self.bytes, block)
-        } else {
-            block
-        };
+        let byte = self.bytes[32 * self.block + (2 + place / 8)];
+        let next = block_after(self.bytes, self.block, position);
         self.position = position + 1;
         self.block = next;
         Ok(has_bit(byte, place % 8))

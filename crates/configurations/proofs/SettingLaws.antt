@@ -4,9 +4,8 @@ use Rattle.std.proofs.lemmas.Bool.{lt-ltb, ltb-true, le-leb, leb-true, eq-eqb, n
 use Rattle.bits.specs.Codes.{fixed, number}
 use Rattle.bits.specs.Stores.{Parse, got, refused, one_field}
 use Rattle.bits.specs.declared.StoreFault.TheVariants.{End}
-use Rattle.bits.proofs.Codes.{length_fixed, number_field, fixed_number}
+use Rattle.bits.proofs.Codes.{number_take, number_whole, length_fixed, number_field, fixed_number}
 use Rattle.bits.proofs.Steps.{field_got, field_ok}
-use Rattle.lengths.proofs.Parts.{piece_lt, piece_whole}
 use Rattle.lengths.specs.declared.faults.NumberFault.TheVariants.{Store}
 use Rattle.lengths.specs.Fields.{field_code}
 use Rattle.lengths.proofs.FieldLaws.{field_back, field_exact}
@@ -35,17 +34,17 @@ number_back w at v rest few h =
 number_exact : (w at v : ℕ) (bits rest : List Bool) → w ≤ 8 → one_number w at bits ≡ got v rest → (v < 2 ^ w) × (bits ≡ fixed w v ++ rest)
 number_exact w at v bits rest few e =
     let f = field_ok w at bits v rest (carried_got (λ f. Number (Store f)) (one_field w at bits) v rest e) in
-    let whole = piece_whole w bits (omega arith) in
-    let is : v ≡ number (take w bits) = f.1 ∙ whole.0 in
+    let whole = number_whole w bits (omega arith) in
+    let is : v ≡ number (take w bits) = f.1 ∙ whole in
     let front : take w bits ≡ fixed w v = sym (fixed_number (take w bits)) ∙ ap (λ k. fixed k (number (take w bits))) (length-take-le w bits f.0) ∙ ap (fixed w) (sym is) in
-    (omega (arith, piece_lt w bits), sym (take-append-drop w bits) ∙ ap (λ xs. xs ++ drop w bits) front ∙ ap (λ xs. fixed w v ++ xs) (sym f.2))
+    (omega (arith, number_take w bits), sym (take-append-drop w bits) ∙ ap (λ xs. xs ++ drop w bits) front ∙ ap (λ xs. fixed w v ++ xs) (sym f.2))
 
 pub number_laws : (w : ℕ) → w ≤ 8 → Laws (one_number w) (fixed w) (λ v. v < 2 ^ w)
 number_laws w few = record { back = λ at v rest h. number_back w at v rest few h; exact = λ at v bits rest e. number_exact w at v bits rest few e }
 
 -- the flags are a number of seven bits, but for the place of a refusal
 pub flags_number : (at : ℕ) (bits : List Bool) → one_flags at bits ≡ one_number 7 (at + length bits) bits
-flags_number at bits = rw (piece_whole 7 bits (omega arith)).0 (go (ltb (length bits) 7))
+flags_number at bits = rw (number_whole 7 bits (omega arith)) (go (ltb (length bits) 7))
   where
     go : (b : Bool) → ◌≡◌ {A = Parse ListFault ℕ} (cond b (refused (Number (Store (End (at + length bits))))) (got (number (take 7 bits)) (drop 7 bits)))
         (carried (λ f. Number (Store f)) (cond b (refused (End (at + length bits))) (got (number (take 7 bits)) (drop 7 bits))))
@@ -64,11 +63,11 @@ length_laws = record { back = λ at v rest h. ap (carried Number) (field_back at
 
 -- curves that are read are not all absent
 some_got : (at v : ℕ) (x : Parse ListFault ℕ) (rest : List Bool) → some_curves at x ≡ got v rest → (x ≡ got v rest) × (v ≡ 15 → ⊥)
-some_got at v (refused f) rest e = let z : ◌≡◌ {A = ℕ} 0 1 = cc in absurd (omega arith)
+some_got at v (refused f) rest e = cc
 some_got at v (got n more) rest e = go (eqb n 15) refl e
   where
     go : (b : Bool) → eqb n 15 ≡ b → ◌≡◌ {A = Parse ListFault ℕ} (cond b (refused (Curves at)) (got n more)) (got v rest) → (◌≡◌ {A = Parse ListFault ℕ} (got n more) (got v rest)) × (v ≡ 15 → ⊥)
-    go true is e = let z : ◌≡◌ {A = ℕ} 0 1 = cc in absurd (omega arith)
+    go true is e = cc
     go false is e = let same : n ≡ v = cc in (e, λ f. eqb-false n 15 is (same ∙ f))
 
 pub curves_laws : Laws one_curves (fixed 4) (λ v. (v < 16) × (v ≡ 15 → ⊥))

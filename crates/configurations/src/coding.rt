@@ -1,20 +1,22 @@
 //! A configuration: made, measured, written and read.
-ghost use Rattle.std.specs.Prelude.{◌≡◌, ◌+◌, ◌≤◌, true, ◌++◌, length, if◌then◌else◌};
+ghost use Rattle.std.specs.Prelude.{◌≡◌, ◌≤◌, true, length, if◌then◌else◌};
 ghost use Rattle.bits.specs.Codes.{fixed};
-ghost use Rattle.bits.specs.Stores.{left, ReadAs, Reads};
+ghost use Rattle.bits.specs.Stores.{HasRoom, appended, left, ReadAs, Reads};
 ghost use Rattle.lengths.specs.Fields.{field_code};
-ghost use Rattle.lengths.specs.Coding.{Wrote, Faithful, PartAs};
+ghost use Rattle.lengths.specs.Coding.{Wrote, Faithful, Takes};
 ghost use Rattle.items.specs.Sequences.{one_number};
 ghost use Rattle.configurations.specs.Settings.{lawful_fields, sent_bits, configuration_code, one_flags, one_length, one_curves, if_sent, one_configuration};
 ghost use Rattle.configurations.specs.Configurations.{fields_in, asked};
 
 use crate::path::PathConfiguration;
-use crate::{ConfigurationFault, PathFields};
+use crate::{ConfigurationFault, Flag, PathFields};
 use bits::{Sink, Source, append, or_back, take_part};
 use items::faults::ListFault;
+use lengths::codes::Code;
 use lengths::faults::WriteFault;
-use lengths::fields::{LengthField, field_of};
+use lengths::fields::{LengthField, LengthFields};
 
+// No `Code`: each field of a configuration is told at its own place, and a code is told at one.
 impl PathConfiguration {
     /// The configuration of the fields: it asks whether each is lawful (3), and then whether declared curves are not all absent (4).
     pub fn new(fields: PathFields) -> Result<PathConfiguration, ConfigurationFault>
@@ -35,28 +37,33 @@ impl PathConfiguration {
         ensures bound { result ≤ 24 }
     {
         let c = self.fields;
-        let mode = sent_length(c.flagged(1), 1);
-        let absolute = sent_length(c.uses_absolute(), field_of(c.absolute).length());
-        let relative = sent_length(c.uses_relative(), field_of(c.relative).length());
-        let lines = sent_length(c.flagged(4), 2);
-        let curves = sent_length(!c.flagged(6), 4);
+        let mode = sent_length(c.flagged(Flag::OneMode as u8), 1);
+        let absolute = sent_length(
+            c.uses_absolute(),
+            LengthFields.length(LengthField::of(c.absolute)),
+        );
+        let relative = sent_length(
+            c.uses_relative(),
+            LengthFields.length(LengthField::of(c.relative)),
+        );
+        let lines = sent_length(c.flagged(Flag::OtherLines as u8), 2);
+        let curves = sent_length(!c.flagged(Flag::NoCurves as u8), 4);
         7 + mode + absolute + relative + lines + curves
     }
 
     /// Puts its bits where room for them is known. For the layers above.
     pub fn append_to<S: Sink>(self, sink: &mut S)
-        requires { length (S.content sink.old).bits + length (configuration_code self.fields) ≤ (S.content sink.old).capacity }
+        requires { HasRoom (S.content sink.old) (configuration_code self.fields) }
         ensures kept { S.kept sink.old sink.new }
-        ensures capacity { (S.content sink.new).capacity ≡ (S.content sink.old).capacity }
-        ensures bits { (S.content sink.new).bits ≡ (S.content sink.old).bits ++ configuration_code self.fields }
+        ensures content { S.content sink.new ≡ appended (S.content sink.old) (configuration_code self.fields) }
     {
         let c = self.fields;
         append(sink, 7, c.flags as u32);
-        append_sent(sink, c.flagged(1), 1, c.mode);
+        append_sent(sink, c.flagged(Flag::OneMode as u8), 1, c.mode);
         append_length(sink, c.uses_absolute(), c.absolute);
         append_length(sink, c.uses_relative(), c.relative);
-        append_sent(sink, c.flagged(4), 2, c.lines);
-        append_sent(sink, !c.flagged(6), 4, c.curves);
+        append_sent(sink, c.flagged(Flag::OtherLines as u8), 2, c.lines);
+        append_sent(sink, !c.flagged(Flag::NoCurves as u8), 4, c.curves);
     }
 
     /// Writes it, and answers how many bits that took. Want of room is refused with 10.
@@ -83,6 +90,9 @@ impl PathConfiguration {
     }
 }
 
+// That a field is sent follows from the fields before it, and is kept nowhere beside its value: an `Option` would take a method for each of
+// the five fields, so the functions below are given `sent`.
+
 /// The length of a field that may not be sent.
 fn sent_length(sent: bool, bits: usize) -> usize
     requires { bits ≤ 5 }
@@ -94,10 +104,9 @@ fn sent_length(sent: bool, bits: usize) -> usize
 
 /// Puts a field of so many bits, if it is sent.
 fn append_sent<S: Sink>(sink: &mut S, sent: bool, width: u8, value: u8)
-    requires { length (S.content sink.old).bits + length (sent_bits sent (fixed width value)) ≤ (S.content sink.old).capacity }
+    requires { HasRoom (S.content sink.old) (sent_bits sent (fixed width value)) }
     ensures kept { S.kept sink.old sink.new }
-    ensures capacity { (S.content sink.new).capacity ≡ (S.content sink.old).capacity }
-    ensures bits { (S.content sink.new).bits ≡ (S.content sink.old).bits ++ sent_bits sent (fixed width value) }
+    ensures content { S.content sink.new ≡ appended (S.content sink.old) (sent_bits sent (fixed width value)) }
 {
     if sent {
         append(sink, width, value as u32);
@@ -106,19 +115,18 @@ fn append_sent<S: Sink>(sink: &mut S, sent: bool, width: u8, value: u8)
 
 /// Puts a length field, if it is sent.
 fn append_length<S: Sink>(sink: &mut S, sent: bool, bits: u8)
-    requires { (bits ≤ 14) × (length (S.content sink.old).bits + length (sent_bits sent (field_code bits)) ≤ (S.content sink.old).capacity) }
+    requires { (bits ≤ 14) × (HasRoom (S.content sink.old) (sent_bits sent (field_code bits))) }
     ensures kept { S.kept sink.old sink.new }
-    ensures capacity { (S.content sink.new).capacity ≡ (S.content sink.old).capacity }
-    ensures bits { (S.content sink.new).bits ≡ (S.content sink.old).bits ++ sent_bits sent (field_code bits) }
+    ensures content { S.content sink.new ≡ appended (S.content sink.old) (sent_bits sent (field_code bits)) }
 {
     if sent {
-        field_of(bits).append_to(sink);
+        LengthFields.append_to(sink, LengthField::of(bits));
     }
 }
 
 /// The fields in their order. A refusal leaves the source further on.
 fn take_fields<S: Source>(source: &mut S) -> Result<PathFields, ListFault>
-    ensures { PartAs (one_configuration (S.tape source.old).position (left (S.tape source.old))) (S.tape source.old) result (S.tape source.new) }
+    ensures { Takes one_configuration (S.tape source.old) result (S.tape source.new) }
 {
     let flags = read_flags(source)?;
     let mut c = PathFields {
@@ -129,11 +137,11 @@ fn take_fields<S: Source>(source: &mut S) -> Result<PathFields, ListFault>
         lines: 0,
         curves: 0,
     };
-    c.mode = read_number(source, c.flagged(1), 1)?;
+    c.mode = read_number(source, c.flagged(Flag::OneMode as u8), 1)?;
     c.absolute = read_length(source, c.uses_absolute())?;
     c.relative = read_length(source, c.uses_relative())?;
-    c.lines = read_number(source, c.flagged(4), 2)?;
-    c.curves = read_curves(source, !c.flagged(6))?;
+    c.lines = read_number(source, c.flagged(Flag::OtherLines as u8), 2)?;
+    c.curves = read_curves(source, !c.flagged(Flag::NoCurves as u8))?;
     Ok(c)
 }
 
@@ -173,7 +181,7 @@ fn read_length<S: Source>(source: &mut S, sent: bool) -> Result<u8, ListFault>
     if !sent {
         return Ok(0);
     }
-    let field = LengthField::read(source)?;
+    let field = LengthFields.read(source)?;
     Ok(field.bits())
 }
 

@@ -2,14 +2,36 @@
 #![tactic(auto)]
 
 ghost use Rattle.std.specs.Prelude.{◌≡◌, ◌&&◌, nat_le, nat_lt};
-ghost use Rattle.configurations.specs.Settings.{flagged as flagged_of, uses_absolute, uses_relative, sent_or_zero, fields_lawful, curves_lawful};
+ghost use Rattle.configurations.specs.Settings.{flagged as flagged_of, uses_absolute, uses_relative, fields_lawful, curves_lawful};
 ghost use Rattle.configurations.specs.Configurations.{configuration_number};
 
+use bits::has_bit;
+
 pub mod coding;
+mod messages;
 pub mod path;
 
-/// The fields of a configuration. Any numbers may stand here; `PathConfiguration::new` asks whether they are lawful.
-#[derive(Clone, Copy)]
+/// The flags of a configuration, by the k of Ck.
+#[derive(Clone, Copy, Debug, PartialEq, Eq)]
+pub enum Flag {
+    /// C1: one mode, and not both.
+    OneMode = 1,
+    /// C2: no Z.
+    NoClose = 2,
+    /// C3: no M.
+    NoMove = 3,
+    /// C4: another choice of linetos than L alone.
+    OtherLines = 4,
+    /// C5: of L1 to L4, only L1.
+    OneLine = 5,
+    /// C6: no curves.
+    NoCurves = 6,
+    /// C7: no A.
+    NoArc = 7,
+}
+
+/// The fields of a configuration. Any numbers may stand here, and so no enums; `PathConfiguration::new` asks whether they are lawful.
+#[derive(Clone, Copy, Debug, PartialEq, Eq)]
 pub struct PathFields {
     /// The flags C1 to C7, C1 the most significant of seven bits.
     pub flags: u8,
@@ -26,7 +48,7 @@ pub struct PathFields {
 }
 
 /// Why fields are no configuration.
-#[derive(Clone, Copy)]
+#[derive(Clone, Copy, Debug, PartialEq, Eq)]
 pub enum ConfigurationFault {
     /// A field is not lawful, or one that is not sent is not 0 (3).
     Field,
@@ -51,21 +73,21 @@ impl PathFields {
     pub fn flagged(self, k: u8) -> bool
         ensures { result ≡ flagged_of k self.flags }
     {
-        (self.flags >> 7u8.saturating_sub(k)) % 2 == 1
+        has_bit(u32::from(self.flags), 7u8.saturating_sub(k))
     }
 
     /// Whether absolute values are in use.
     pub fn uses_absolute(self) -> bool
         ensures { result ≡ uses_absolute self.flags self.mode }
     {
-        !self.flagged(1) || self.mode == 0
+        !self.flagged(Flag::OneMode as u8) || self.mode == 0
     }
 
     /// Whether relative values are in use.
     pub fn uses_relative(self) -> bool
         ensures { result ≡ uses_relative self.flags self.mode }
     {
-        !self.flagged(1) || self.mode == 1
+        !self.flagged(Flag::OneMode as u8) || self.mode == 1
     }
 
     /// Whether each field is lawful, and one that is not sent is 0 (3).
@@ -73,11 +95,11 @@ impl PathFields {
         ensures { result ≡ fields_lawful self }
     {
         self.in_bounds()
-            && sent_or_zero(self.flagged(1), self.mode)
-            && sent_or_zero(self.uses_absolute(), self.absolute)
-            && sent_or_zero(self.uses_relative(), self.relative)
-            && sent_or_zero(self.flagged(4), self.lines)
-            && sent_or_zero(!self.flagged(6), self.curves)
+            && (self.flagged(Flag::OneMode as u8) || self.mode == 0)
+            && (self.uses_absolute() || self.absolute == 0)
+            && (self.uses_relative() || self.relative == 0)
+            && (self.flagged(Flag::OtherLines as u8) || self.lines == 0)
+            && (!self.flagged(Flag::NoCurves as u8) || self.curves == 0)
     }
 
     /// Whether each field lies within its bounds.
@@ -96,13 +118,6 @@ impl PathFields {
     pub fn curves_lawful(self) -> bool
         ensures { result ≡ curves_lawful self }
     {
-        self.flagged(6) || self.curves != 15
+        self.flagged(Flag::NoCurves as u8) || self.curves != 15
     }
-}
-
-/// Whether a field that is not sent is 0.
-fn sent_or_zero(sent: bool, value: u8) -> bool
-    ensures { result ≡ sent_or_zero sent value }
-{
-    sent || value == 0
 }

@@ -5,7 +5,7 @@ ghost use Rattle.configurations.specs.Settings.{lawful_fields};
 use crate::PathFields;
 
 /// A lawful configuration.
-#[derive(Clone, Copy)]
+#[derive(Clone, Copy, Debug, PartialEq, Eq)]
 pub struct PathConfiguration {
     /// Its fields.
     pub fields: PathFields,

@@ -23,7 +23,7 @@ pub fn check(bytes: &[u8], held: usize) -> Result<usize, LayoutFault>
     Ok(capacity)
 }
 
-/// A flat run as a sink.
+/// A flat run as a sink. The memory is the host's and fixed, so the count of held bits stands beside it.
 #[derive(Drop)]
 pub struct FlatSink<'a> {
     bytes: &'a mut [u8],

@@ -1,11 +1,11 @@
 -- Reading an integer whose first piece is all ones.
 use Rattle.std.proofs.Common.{◌≡◌, ℕ, ◌+◌, ◌≤◌, true, false, ◌∷◌, length, drop, ℤ, pos, negsuc, Ok, Err, sym, refl, ap, ◌∙◌, ⊎_elim, arith}
-use Rattle.bits.specs.Stores.{Tape, left, refused, ReadAs, one_field}
+use Rattle.bits.specs.Stores.{Tape, left, refused, ReadAs, one_field, mapped}
 use Rattle.lengths.specs.Coding.{PartAs}
 use Rattle.lengths.specs.declared.faults.NumberFault.{NumberFault}
 use Rattle.lengths.specs.Lengths.{largest}
 use Rattle.naturals.specs.Naturals.{sum_limit, one_natural}
-use Rattle.integers.specs.Integers.{mapped, one_absolute}
+use Rattle.integers.specs.Integers.{one_absolute}
 use Rattle.lengths.proofs.CodingLaws.{Taken, took, bit_cases, part_got, part_refused, part_ok, part_err}
 use Rattle.integers.proofs.IntegerLaws.{way_above, way_below}
 
@@ -13,7 +13,7 @@ use Rattle.integers.proofs.IntegerLaws.{way_above, way_below}
 module _ (cl field : ℕ) (s t u v : Tape) (p b : ℕ) (few : cl ≤ 14) (at-s : s.position ≤ length s.bits) (at-t : t.position ≤ length t.bits)
     (piece : ReadAs (one_field cl field (left s)) s (Ok p) t) (side : ReadAs (one_field 1 field (left t)) t (Ok b) u) (high : largest cl ≤ p) where
   k : Taken cl s p t
-  k = took cl field s t p few at-s piece
+  k = took cl field s t p (omega arith) at-s piece
 
   l : Taken 1 t b u
   l = took 1 field t u b (omega arith) at-t side

@@ -3,33 +3,30 @@ use Rattle.std.proofs.Common.{◌≡◌, ℕ, ◌+◌, ◌-◌, ◌^◌, ◌<◌
 use lib.ListN.{length-replicate}
 use Rattle.std.proofs.lemmas.Int.{ints}
 use Rattle.std.proofs.lemmas.Bool.{cases_lt, le-ltb, lt-ltb, ltb-true, ltb-false}
+use Rattle.bits.proofs.Steps.{mapped_got}
 use Rattle.bits.specs.Codes.{fixed, number}
-use Rattle.bits.specs.Stores.{Parse, got, refused}
+use Rattle.bits.specs.Stores.{Parse, got, refused, mapped}
 use Rattle.bits.specs.declared.StoreFault.TheVariants.{End}
-use Rattle.bits.proofs.Codes.{length_fixed, number_field, fixed_number}
+use Rattle.bits.proofs.Codes.{number_take, length_fixed, number_field, fixed_number}
 use Rattle.lengths.specs.declared.faults.NumberFault.{NumberFault}
 use Rattle.lengths.specs.declared.faults.NumberFault.TheVariants.{Store, Range}
 use Rattle.lengths.specs.declared.Mode.{Mode}
 use Rattle.lengths.specs.declared.Mode.TheVariants.{Absolute, Relative}
+use Rattle.lengths.specs.Coding.{CodeLaw}
 use Rattle.lengths.specs.Lengths.{largest}
 use Rattle.naturals.specs.Naturals.{ones, natural_code, pieces, sum_limit}
-use Rattle.integers.specs.Integers.{in_range, offset, absolute_code, integer_code, mapped, after_ones, one_absolute, ranged, one_integer}
-use Rattle.lengths.proofs.Parts.{piece_lt}
+use Rattle.integers.specs.Integers.{in_range, offset, absolute_code, integer_code, after_ones, one_absolute, ranged, one_integer}
 use Rattle.naturals.proofs.Pieces.{number_ones, ones_from_largest}
 use Rattle.naturals.proofs.NaturalLaws.{back, only}
 
 -- a value that was read by way of another
-pub mapped_got : {E A B : Type 0} (f : A → B) (x : Parse E A) (v : B) (rest : List Bool) → mapped f x ≡ got v rest → (a : A) × (x ≡ got a rest) × (v ≡ f a)
-mapped_got f (got a more) v rest e = (a, (cc), (cc))
-mapped_got f (refused z) v rest e = let z : ◌≡◌ {A = ℕ} 0 1 = cc in absurd (omega arith)
-
 pub ranged_got : (p : ℕ) (x : Parse NumberFault ℤ) (v : ℤ) (rest : List Bool) → ranged p x ≡ got v rest → (x ≡ got v rest) × (in_range v ≡ true)
-ranged_got p (refused z) v rest e = let z : ◌≡◌ {A = ℕ} 0 1 = cc in absurd (omega arith)
+ranged_got p (refused z) v rest e = cc
 ranged_got p (got w more) v rest e = go (in_range w) refl e
   where
     go : (b : Bool) → in_range w ≡ b → ◌≡◌ {A = Parse NumberFault ℤ} (cond b (got w more) (refused (Range p))) (got v rest) → ◌≡◌ {A = Parse NumberFault ℤ} (got w more) (got v rest) × (in_range v ≡ true)
     go true is e = let same : w ≡ v = cc in (e, ap in_range (sym same) ∙ is)
-    go false is e = let z : ◌≡◌ {A = ℕ} 0 1 = cc in absurd (omega arith)
+    go false is e = cc
 
 module _ (m at cl : ℕ) where
   read_at : (xs ys : List Bool) → length xs ≡ cl
@@ -61,7 +58,7 @@ module _ (m at cl : ℕ) where
 
   after_exact : (v : ℤ) (ys rest : List Bool) → 1 ≤ cl → after_ones m cl at ys ≡ got v rest → ones cl ++ ys ≡ absolute_code cl v ++ rest
   unfolding absolute_code
-  after_exact v [] rest one e = let z : ◌≡◌ {A = ℕ} 0 1 = cc in absurd (omega arith)
+  after_exact v [] rest one e = cc
   after_exact v (true ∷ bs) rest one e =
       let g = mapped_got (λ n. pos (n + largest cl)) (pieces m cl at 0 0 bs) v rest e in
       let o = only m at cl g.0 bs rest one g.1 in
@@ -82,7 +79,7 @@ module _ (m at cl : ℕ) where
 
       go : (a b : Bool) → ltb (length bits) cl ≡ a → ltb p (largest cl) ≡ b
           → cond a (refused (Store (End at))) (cond b (got (pos p) (drop cl bits)) (after_ones m cl at (drop cl bits))) ≡ got v rest → bits ≡ absolute_code cl v ++ rest
-      go true b la lb e = let z : ◌≡◌ {A = ℕ} 0 1 = cc in absurd (omega arith)
+      go true b la lb e = cc
       go false true la lb e =
           let len : length (take cl bits) ≡ cl = length-take-le cl bits (ltb-false (length bits) cl la) in
           let is : v ≡ pos p = cc in
@@ -91,7 +88,7 @@ module _ (m at cl : ℕ) where
           rw (is, lb) (sym (take-append-drop cl bits) ∙ ap (λ xs. xs ++ drop cl bits) front ∙ ap (λ xs. fixed cl p ++ xs) end)
       go false false la lb e =
           let len : length (take cl bits) ≡ cl = length-take-le cl bits (ltb-false (length bits) cl la) in
-          let lt = piece_lt cl bits in
+          let lt = number_take cl bits in
           let le = ltb-false p (largest cl) lb in
           let front = ones_from_largest cl (take cl bits) len (omega arith) in
           sym (take-append-drop cl bits) ∙ ap (λ xs. xs ++ drop cl bits) front ∙ after_exact v (drop cl bits) rest one e
@@ -132,6 +129,11 @@ integer_exact mode cl at v bits rest one e =
     (r.1, absolute_exact sum_limit at cl g.0 bits rest one g.1 ∙ ap (λ x. absolute_code cl x ++ rest) w)
 
 -- the code of an integer by its form
+-- the law of integers in a mode at a code length
+pub integer_law : (mode : Mode) (cl : ℕ) → 1 ≤ cl → cl ≤ 14 → CodeLaw in_range (integer_code mode cl) (one_integer mode cl)
+integer_law mode cl one few =
+    record { back = λ at v rest h. integer_back mode cl at v rest one few h; exact = λ at v bits rest e. integer_exact mode cl at v bits rest one e }
+
 pub shape_single : (cl n : ℕ) (w : ℤ) → w ≡ pos n → n < largest cl → fixed cl n ≡ absolute_code cl w
 unfolding absolute_code
 shape_single cl n w e h = rw (e, lt-ltb n (largest cl) h)

@@ -3,7 +3,7 @@
 -- (`negsuc n` is the integer -1 - n.)
 use Rattle.std.specs.Prelude.{ℕ, ◌+◌, ◌-◌, ◌^◌, Bool, true, false, cond, List, [], ◌∷◌, ◌++◌, length, take, drop, ℤ, pos, negsuc, ◌+ℤ◌, ◌-ℤ◌, nat_lt}
 use Rattle.bits.specs.Codes.{fixed, number}
-use Rattle.bits.specs.Stores.{Parse, got, refused}
+use Rattle.bits.specs.Stores.{Parse, got, refused, mapped}
 use Rattle.bits.specs.declared.StoreFault.TheVariants.{End}
 use Rattle.lengths.specs.declared.faults.NumberFault.{NumberFault}
 use Rattle.lengths.specs.declared.faults.NumberFault.TheVariants.{Store, Range}
@@ -31,11 +31,6 @@ absolute_code cl (negsuc n) = ones cl ++ (false ∷ natural_code cl n)
 
 abbrev pub integer_code : Mode → ℕ → ℤ → List Bool
 integer_code mode cl v = absolute_code cl (v +ℤ offset mode cl)
-
--- a value that is read, as another
-abbrev pub mapped : {E A B : Type 0} → (A → B) → Parse E A → Parse E B
-mapped f (got a rest) = got (f a) rest
-mapped f (refused e) = refused e
 
 -- what follows a piece of ones: a bit for the side, and a number
 abbrev pub after_ones : ℕ → ℕ → ℕ → List Bool → Parse NumberFault ℤ

@@ -2,25 +2,21 @@
 use Rattle.std.proofs.Common.{◌≡◌, ℕ, zero, suc, ◌+◌, ◌-◌, ◌<◌, ◌≤◌, Bool, true, cond, ltb, List, [], ◌∷◌, ◌++◌, length, take, replicate, Ok, Err, Result, sym, refl, ap, ◌∙◌, ⊎_elim, append_assoc, arith, length-append, length-drop}
 use Rattle.std.proofs.lemmas.Bool.{and_parts, and_from, cases_lt, lt-ltb, le-ltb}
 use Rattle.bits.specs.declared.StoreFault.{StoreFault}
-use Rattle.bits.specs.Stores.{Tape, left, Parse, got, refused, ReadAs, Back}
-use Rattle.bits.proofs.Steps.{read_ok}
+use Rattle.bits.specs.Stores.{Tape, left, Parse, got, refused, ReadAs, Back, mapped}
+use Rattle.bits.proofs.Steps.{read_ok, mapped_got}
 use Rattle.lengths.specs.Coding.{PartAs}
-use Rattle.items.specs.Sequences.{onward, carried, mapped, followed, in_turn, in_order, only_used}
+use Rattle.items.specs.Sequences.{onward, carried, followed, in_turn, in_order, only_used}
 
 -- a value that was read by way of another, and a refusal
-pub mapped_got : {E A B : Type 0} (f : A → B) (x : Parse E A) (v : B) (rest : List Bool) → mapped f x ≡ got v rest → (a : A) × (x ≡ got a rest) × (v ≡ f a)
-mapped_got f (got a more) v rest e = (a, (cc), (cc))
-mapped_got f (refused z) v rest e = let z : ◌≡◌ {A = ℕ} 0 1 = cc in absurd (omega arith)
-
 pub carried_got : {E F A : Type 0} (carry : E → F) (x : Parse E A) (a : A) (rest : List Bool) → carried carry x ≡ got a rest → x ≡ got a rest
 carried_got carry (got b more) a rest e = let p : b ≡ a = cc in let q : more ≡ rest = cc in (cc)
-carried_got carry (refused z) a rest e = let z : ◌≡◌ {A = ℕ} 0 1 = cc in absurd (omega arith)
+carried_got carry (refused z) a rest e = cc
 
 -- what was read in two parts
 pub followed_got : {E A B : Type 0} (at : ℕ) (bits : List Bool) (x : Parse E A) (next : A → ℕ → List Bool → Parse E B) (b : B) (rest : List Bool)
     → followed at bits x next ≡ got b rest → (a : A) × (more : List Bool) × (x ≡ got a more) × (next a (onward at bits more) more ≡ got b rest)
 followed_got at bits (got a more) next b rest e = (a, more, refl, e)
-followed_got at bits (refused z) next b rest e = let z : ◌≡◌ {A = ℕ} 0 1 = cc in absurd (omega arith)
+followed_got at bits (refused z) next b rest e = cc
 
 -- two parts that are read back, where the whole code is that of the one and then that of the other
 pub followed_back : {E A B : Type 0} (first : ℕ → List Bool → Parse E A) (next : A → ℕ → List Bool → Parse E B) (at : ℕ) (xs ys rest : List Bool) (a : A) (b : B)

@@ -1,6 +1,6 @@
 -- Fields that are read one after the other.
 use Rattle.std.specs.Prelude.{ℕ, zero, suc, ◌+◌, ◌-◌, Bool, true, false, cond, ◌&&◌, List, [], ◌∷◌, ◌++◌, length, take, replicate, ℤ, pos, negsuc, ◌==◌, nat_lt}
-use Rattle.bits.specs.Stores.{Parse, got, refused, one_field}
+use Rattle.bits.specs.Stores.{Parse, got, refused, mapped, one_field}
 use Rattle.lengths.specs.declared.faults.NumberFault.TheVariants.{Store}
 use Rattle.items.specs.declared.faults.ListFault.{ListFault}
 use Rattle.items.specs.declared.faults.ListFault.TheVariants.{Number}
@@ -17,11 +17,6 @@ carried carry (refused e) = refused (carry e)
 -- a field of so many bits, in a list
 abbrev pub one_number : ℕ → ℕ → List Bool → Parse ListFault ℕ
 one_number width position bits = carried (λ e. Number (Store e)) (one_field width position bits)
-
--- a value that is read, as another
-abbrev pub mapped : {E A B : Type 0} → (A → B) → Parse E A → Parse E B
-mapped f (got a rest) = got (f a) rest
-mapped f (refused e) = refused e
 
 -- a field of the bits at the position was read, and what follows it is read from there
 abbrev pub followed : {E A B : Type 0} → ℕ → List Bool → Parse E A → (A → ℕ → List Bool → Parse E B) → Parse E B

@@ -9,7 +9,7 @@ use bits::{Layer, StoreFault, Told};
 use lengths::faults::NumberFault;
 
 /// Why reading a list, or the configuration before it, is refused. Each case tells the place of a field's or an item's first bit.
-#[derive(Clone, Copy)]
+#[derive(Clone, Copy, Debug, PartialEq, Eq)]
 pub enum ListFault {
     /// A number, or the source, refused.
     Number(NumberFault),
@@ -26,24 +26,17 @@ impl ListFault {
     pub fn told(&self) -> Told
         ensures { result ≡ list_told self.now }
     {
+        let (number, position) = match *self {
+            ListFault::Number(fault) => return fault.told(),
+            ListFault::Curves { position } => (4, position),
+            ListFault::Limit { position } => (12, position),
+            ListFault::Place { position } => (25, position),
+        };
         let layer = Layer::List;
-        match *self {
-            ListFault::Number(fault) => fault.told(),
-            ListFault::Curves { position } => Told {
-                number: 4,
-                layer,
-                position,
-            },
-            ListFault::Limit { position } => Told {
-                number: 12,
-                layer,
-                position,
-            },
-            ListFault::Place { position } => Told {
-                number: 25,
-                layer,
-                position,
-            },
+        Told {
+            number,
+            layer,
+            position,
         }
     }
 }
@@ -66,25 +59,25 @@ impl From<StoreFault> for ListFault {
 }
 
 /// Which list of an element.
-#[derive(Clone, Copy)]
+#[derive(Clone, Copy, Debug, PartialEq, Eq)]
 pub enum ListName {
     /// The commands of its path.
     Commands,
     /// Its transforms.
     Transforms,
-    /// A list of another kind of item, by a number of its own.
+    /// A list of another kind of item, by a number of its own: kinds are open, so no enum can name them all.
     Other(u8),
 }
 
 /// An item of an element: its list, and its index there.
-#[derive(Clone, Copy)]
+#[derive(Clone, Copy, Debug, PartialEq, Eq)]
 pub struct ItemPlace {
     pub list: ListName,
     pub index: usize,
 }
 
 /// Why an item is not lawful.
-#[derive(Clone, Copy)]
+#[derive(Clone, Copy, Debug, PartialEq, Eq)]
 pub enum ItemFault {
     /// One of its lengths is over 14 (13).
     Length,
@@ -108,7 +101,7 @@ impl ItemFault {
 }
 
 /// Why measuring or writing a list is refused.
-#[derive(Clone, Copy)]
+#[derive(Clone, Copy, Debug, PartialEq, Eq)]
 pub enum ListWriteFault {
     /// The list has more items than its kind allows (12).
     Limit(ListName),

@@ -1,8 +1,8 @@
 //! Kinds of item and the law that each keeps; the list over lent places; the faults of lists.
 #![tactic(auto)]
 
-ghost use Rattle.std.specs.Prelude.{◌≡◌, ℕ, ◌+◌, ◌≤◌, true, ◌++◌, length};
-ghost use Rattle.bits.specs.Stores.{Reads};
+ghost use Rattle.std.specs.Prelude.{◌≡◌, ℕ, ◌≤◌, true, length};
+ghost use Rattle.bits.specs.Stores.{HasRoom, appended, Reads};
 ghost use Rattle.items.specs.Kinds.{Kind, lawful, ReadBack, ReadExact};
 ghost use Rattle.items.specs.declared.faults.ListName.{ListName};
 
@@ -11,6 +11,7 @@ use faults::{ListFault, ListName};
 
 pub mod faults;
 pub mod list;
+mod messages;
 
 /// A kind of item: its record, its configuration, and the most items that a list has.
 /// A new kind proves its own law; list coding is proved from that alone.
@@ -23,22 +24,16 @@ pub trait ItemKind {
     /// The most items of a list.
     const LIMIT: usize;
 
-    // What `LIMIT` is, for clauses.
-    ghost limit: { ℕ };
+    ghost LIMIT: { ℕ };
 
-    ghost few: { limit ≤ 65536 };
-
-    ghost list: { ListName };
-
-    ghost kind: { Self.Configuration → Kind Self.Record };
-
-    /// The most items of a list.
-    fn most_items() -> usize
-        ensures { result ≡ limit };
+    ghost few: { LIMIT ≤ 65536 };
 
     /// Which list the items are in.
-    fn list_name() -> ListName
-        ensures { result ≡ list };
+    const LIST: ListName;
+
+    ghost LIST: { ListName };
+
+    ghost kind: { Self.Configuration → Kind Self.Record };
 
     /// Whether each length of an item is lawful (13).
     fn lengths_lawful(configuration: &Self::Configuration, item: &Self::Record) -> bool
@@ -66,24 +61,22 @@ pub trait ItemKind {
 
     /// Puts the bits of a lawful item where room for them is known.
     fn append<S: Sink>(configuration: &Self::Configuration, item: &Self::Record, sink: &mut S)
-        requires { (lawful (kind configuration.now) item.now ≡ true) × (length (S.Sink.content sink.old).bits + length ((kind configuration.now).code item.now) ≤ (S.Sink.content sink.old).capacity) }
-        ensures kept { S.Sink.kept sink.old sink.new }
-        ensures capacity { (S.Sink.content sink.new).capacity ≡ (S.Sink.content sink.old).capacity }
-        ensures bits { (S.Sink.content sink.new).bits ≡ (S.Sink.content sink.old).bits ++ (kind configuration.now).code item.now };
+        requires { (lawful (kind configuration.now) item.now ≡ true) × HasRoom (S.content sink.old) ((kind configuration.now).code item.now) }
+        ensures kept { S.kept sink.old sink.new }
+        ensures content { S.content sink.new ≡ appended (S.content sink.old) ((kind configuration.now).code item.now) };
 
     /// Puts the bits of the end word where room for them is known.
     fn append_end<S: Sink>(configuration: &Self::Configuration, sink: &mut S)
-        requires { length (S.Sink.content sink.old).bits + length (kind configuration.now).ending ≤ (S.Sink.content sink.old).capacity }
-        ensures kept { S.Sink.kept sink.old sink.new }
-        ensures capacity { (S.Sink.content sink.new).capacity ≡ (S.Sink.content sink.old).capacity }
-        ensures bits { (S.Sink.content sink.new).bits ≡ (S.Sink.content sink.old).bits ++ (kind configuration.now).ending };
+        requires { HasRoom (S.content sink.old) (kind configuration.now).ending }
+        ensures kept { S.kept sink.old sink.new }
+        ensures content { S.content sink.new ≡ appended (S.content sink.old) (kind configuration.now).ending };
 
     /// Reads an item, or none at the end word. At a refusal the source is as before.
     fn read<S: Source>(
         configuration: &Self::Configuration,
         source: &mut S,
     ) -> Result<Option<Self::Record>, ListFault>
-        ensures { Reads (kind configuration.now).parse (S.Source.tape source.old) result (S.Source.tape source.new) };
+        ensures { Reads (kind configuration.now).parse (S.tape source.old) result (S.tape source.new) };
 
     ghost back: { (c : Self.Configuration) → ReadBack (kind c) };
 

@@ -5,11 +5,13 @@ ghost use Rattle.std.specs.Prelude.{◌≡◌, ◌-◌, ◌<◌};
 ghost use Rattle.bits.specs.Codes.{bit as bit_of};
 ghost use Rattle.layout.specs.Layout.{SetBit, layout_number};
 
+mod messages;
+
 /// The most bytes of a store.
 pub const MOST_BYTES: usize = 65_536;
 
 /// Why the check of a store refuses it.
-#[derive(Clone, Copy)]
+#[derive(Clone, Copy, Debug, PartialEq, Eq)]
 pub enum LayoutFault {
     /// The size is not allowed (5).
     Size,
@@ -46,5 +48,5 @@ pub fn has_bit(byte: u8, place: usize) -> bool
     requires { place < 8 }
     ensures { result ≡ bit_of (7 - place) byte }
 {
-    (byte >> (7 - place)) % 2 == 1
+    bits::has_bit(u32::from(byte), (7 - place) as u8)
 }

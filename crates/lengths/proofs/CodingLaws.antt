@@ -1,12 +1,12 @@
 -- From what reading makes of bits to what a call promises.
-use Rattle.std.proofs.Common.{◌≡◌, ℕ, ◌<◌, ◌≤◌, Bool, true, false, ◌⊎◌, List, [], ◌∷◌, ◌++◌, length, take, drop, is_ok, Ok, Err, Result, refl, ap, ◌∙◌, inl, inr, arith, length-drop}
+use Rattle.std.proofs.Common.{◌≡◌, ℕ, ◌^◌, pow_mono, ◌<◌, ◌≤◌, Bool, true, false, ◌⊎◌, List, [], ◌∷◌, ◌++◌, length, take, drop, is_ok, Ok, Err, Result, sym, refl, ap, ◌∙◌, inl, inr, arith, length-drop}
 use Rattle.bits.specs.Stores.{Tape, left, Parse, got, refused, ReadAs, Reads, one_field, returned}
 use Rattle.bits.specs.declared.StoreFault.{StoreFault}
 use Rattle.bits.specs.declared.StoreFault.TheVariants.{End}
 use Rattle.bits.specs.Codes.{number}
+use Rattle.bits.proofs.Codes.{number_take, number_whole}
 use Rattle.bits.proofs.Steps.{read_ok, read_err, field_ok, field_err}
-use Rattle.lengths.proofs.Parts.{piece_whole}
-use Rattle.lengths.specs.Coding.{Faithful, PartAs}
+use Rattle.lengths.specs.Coding.{in_plain, Faithful, PartAs}
 
 -- a call that reads by a parse is faithful to a code, if the parse is
 pub faithful : {E A : Type 0} (parse : ℕ → List Bool → Parse E A) (code : A → List Bool) (Lawful : A → Type 0)
@@ -38,32 +38,31 @@ settled (got a rest) s t u r p e within =
 settled (refused f) s t u r p e within =
     (p.0, e ∙ ap (λ q. returned (is_ok q) s.position t) p.0 ∙ ap (λ b. record { bits = b; position = s.position }) p.1)
 
--- a part of at most 14 bits that was taken: the piece, and where the source then stands
+-- a part of at most 32 bits that was taken: its number, and where the source then stands
 pub record Taken (w : ℕ) (s : Tape) (v : ℕ) (t : Tape) : Type 0 where
   pub enough : w ≤ length (left s)
   pub value : v ≡ number (take w (left s))
-  pub small : v < 16384
+  pub small : v < 2 ^ w
   pub rest : left t ≡ drop w (left s)
   pub same : t.bits ≡ s.bits
   pub moved : s.position ≤ t.position
 
-pub took : (w field : ℕ) (s t : Tape) (v : ℕ) → w ≤ 14 → s.position ≤ length s.bits → ReadAs (one_field w field (left s)) s (Ok v) t → Taken w s v t
+pub took : (w field : ℕ) (s t : Tape) (v : ℕ) → w ≤ 32 → s.position ≤ length s.bits → ReadAs (one_field w field (left s)) s (Ok v) t → Taken w s v t
 took w field s t v few within h =
     let x = read_ok (one_field w field (left s)) s t v h in
     let f = field_ok w field (left s) v (left t) x.0 in
-    let whole = piece_whole w (left s) few in
+    let lt = number_take w (left s) in
+    let is : v ≡ number (take w (left s)) = f.1 ∙ number_whole w (left s) few in
     let a = length-drop s.position s.bits in
     let b = length-drop w (left s) in
     let c = ap length f.2 in
     let d = x.2 in
-    record {
-      enough = f.0;
-      value = f.1 ∙ whole.0;
-      small = (let e = f.1 ∙ whole.0 in omega (arith, whole.1));
-      rest = f.2;
-      same = x.1;
-      moved = (let e = f.0 in omega arith);
-    }
+    let e = f.0 in
+    record { enough = f.0; value = is; small = omega arith; rest = f.2; same = x.1; moved = omega arith }
+
+-- a piece is below 2 ^ 14
+pub small_piece : (w v : ℕ) → w ≤ 14 → v < 2 ^ w → v < 16384
+small_piece w v few lt = let most : 2 ^ w ≤ 2 ^ 14 = pow_mono few in omega arith
 
 -- a part that was not there
 pub missed : (w field : ℕ) (s t : Tape) (f : StoreFault) → ReadAs (one_field w field (left s)) s (Err f) t → (length (left s) < w) × (f ≡ End field) × (t ≡ s)
@@ -87,16 +86,15 @@ completed {E} {A} parse s t u start a r p part q e within =
     let here : PartAs (parse s.position (left s)) s a t = (rw p at part) in
     rw q (settled (parse s.position (left s)) s t u a here (e ∙ ap (λ n. returned (is_ok a) n t) p) within)
 
--- one bit that was taken as a field
-pub bit_zero : (xs : List Bool) → 1 ≤ length xs → number (take 1 xs) ≡ 0 → xs ≡ false ∷ drop 1 xs
-bit_zero [] h e = absurd (omega arith)
-bit_zero (true ∷ bs) h e = absurd (omega arith)
-bit_zero (false ∷ bs) h e = refl
+in_plain_ok : {V P E : Type 0} (plain : V → P) (r : Result V E) → is_ok (in_plain plain r) ≡ is_ok r
+in_plain_ok plain (Ok v) = refl
+in_plain_ok plain (Err e) = refl
 
-pub bit_one : (xs : List Bool) → 1 ≤ length xs → (number (take 1 xs) ≡ 0 → ⊥) → xs ≡ true ∷ drop 1 xs
-bit_one [] h ne = absurd (omega arith)
-bit_one (true ∷ bs) h ne = refl
-bit_one (false ∷ bs) h ne = absurd (ne refl)
+-- the same where the answer's value has a plain form
+pub completed_plain : {V P E : Type 0} (plain : V → P) (parse : ℕ → List Bool → Parse E P) (s t u : Tape) (start : ℕ) (a r : Result V E) → start ≡ s.position
+    → PartAs (parse start (left s)) s (in_plain plain a) t → r ≡ a → u ≡ returned (is_ok a) start t → u.position ≤ length u.bits → Reads parse s (in_plain plain r) u
+completed_plain plain parse s t u start a r p part q e within =
+    completed parse s t u start (in_plain plain a) (in_plain plain r) p part (ap (in_plain plain) q) (e ∙ ap (λ b. returned b start t) (sym (in_plain_ok plain a))) within
 
 -- what an inner call has made of the bits
 pub part_ok : {E A : Type 0} (x : Parse E A) (s t : Tape) (a : A) → PartAs x s (Ok a) t → (x ≡ got a (left t)) × (t.bits ≡ s.bits) × (s.position ≤ t.position)
@@ -104,10 +102,10 @@ part_ok (got b rest) s t a h =
     let e : ◌≡◌ {A = Result _ _} (Ok a) (Ok b) = h.0 in
     let l = h.2 in
     ((cc), h.1, h.3)
-part_ok (refused f) s t a h = let e = h.0 in let z : ◌≡◌ {A = ℕ} 0 1 = cc in absurd (omega arith)
+part_ok (refused f) s t a h = let e = h.0 in cc
 
 pub part_err : {E A : Type 0} (x : Parse E A) (s t : Tape) (f : E) → PartAs x s (Err f) t → (x ≡ refused f) × (t.bits ≡ s.bits) × (s.position ≤ t.position)
-part_err (got b rest) s t f h = let e = h.0 in let z : ◌≡◌ {A = ℕ} 0 1 = cc in absurd (omega arith)
+part_err (got b rest) s t f h = let e = h.0 in cc
 part_err (refused g) s t f h = let e = h.0 in ((cc), h.1, h.2)
 
 -- a bit that was taken as the field v

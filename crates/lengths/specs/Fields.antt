@@ -1,23 +1,21 @@
 -- The length field: the bit 0 for the default length, or the bit 1 and four bits of the code length. Here 0 stands for the default.
-use Rattle.std.specs.Prelude.{ℕ, zero, suc, Bool, true, false, cond, List, [], ◌∷◌, length, take, drop, Ok, Err, Result, nat_lt}
+use Rattle.std.specs.Prelude.{ℕ, zero, suc, Bool, true, false, cond, List, [], ◌∷◌, length, take, drop, Some, None, Option, nat_lt}
 use Rattle.bits.specs.Codes.{fixed, number}
 use Rattle.bits.specs.Stores.{Parse, got, refused}
 use Rattle.bits.specs.declared.StoreFault.TheVariants.{End}
 use Rattle.lengths.specs.declared.faults.NumberFault.{NumberFault}
 use Rattle.lengths.specs.declared.faults.NumberFault.TheVariants.{Store, Length}
 use Rattle.lengths.specs.declared.fields.LengthField.{LengthField}
-use Rattle.lengths.specs.declared.fields.LengthField.TheVariants.{Default, Sent}
+use Rattle.lengths.specs.declared.CodeLength.{CodeLength}
 use Rattle.lengths.specs.Lengths.{is_length}
 
--- the length that a field sends
-abbrev pub sent_by : LengthField → ℕ
-sent_by Default = 0
-sent_by (Sent cl) = cl.bits
+-- the number of a field in a record: the length that it sends, or 0
+abbrev pub length_or_zero : Option CodeLength → ℕ
+length_or_zero (Some cl) = cl.bits
+length_or_zero None = 0
 
--- the same of an answer
-abbrev pub sent_in : {E : Type 0} → Result LengthField E → Result ℕ E
-sent_in (Ok field) = Ok (sent_by field)
-sent_in (Err e) = Err e
+abbrev pub sent_by : LengthField → ℕ
+sent_by field = length_or_zero field.sent
 
 -- the length in use, given the default
 abbrev pub chosen : ℕ → ℕ → ℕ

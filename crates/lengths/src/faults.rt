@@ -7,7 +7,7 @@ ghost use Rattle.lengths.specs.declared.faults.WriteFault.TheVariants.{Store as 
 use bits::{Layer, StoreFault, Told};
 
 /// Why reading a number is refused. Each case tells the place of the field's first bit.
-#[derive(Clone, Copy)]
+#[derive(Clone, Copy, Debug, PartialEq, Eq)]
 pub enum NumberFault {
     /// The source refused.
     Store(StoreFault),
@@ -22,19 +22,16 @@ impl NumberFault {
     pub fn told(&self) -> Told
         ensures { result ≡ number_told self.now }
     {
+        let (number, position) = match *self {
+            NumberFault::Store(fault) => return fault.told(),
+            NumberFault::Length { position } => (21, position),
+            NumberFault::Range { position } => (22, position),
+        };
         let layer = Layer::Number;
-        match *self {
-            NumberFault::Store(fault) => fault.told(),
-            NumberFault::Length { position } => Told {
-                number: 21,
-                layer,
-                position,
-            },
-            NumberFault::Range { position } => Told {
-                number: 22,
-                layer,
-                position,
-            },
+        Told {
+            number,
+            layer,
+            position,
         }
     }
 }
@@ -48,7 +45,7 @@ impl From<StoreFault> for NumberFault {
 }
 
 /// Why writing a number is refused.
-#[derive(Clone, Copy)]
+#[derive(Clone, Copy, Debug, PartialEq, Eq)]
 pub enum WriteFault {
     /// The value is out of range (15).
     Value,

@@ -5,14 +5,16 @@ ghost use Rattle.std.specs.Prelude.{◌≡◌, ℕ, ◌≤◌, true, false, Matc
 ghost use Rattle.lengths.specs.Faults.{defaults_number};
 ghost use Rattle.lengths.specs.Lengths.{is_length, largest as largest_piece, length_in, Refuses};
 
+pub mod codes;
 pub mod faults;
 pub mod fields;
+mod messages;
 
 /// The longest code length.
 pub const LONGEST: u8 = 14;
 
 /// A code length, from 1 to 14.
-#[derive(Clone, Copy)]
+#[derive(Clone, Copy, Debug, PartialEq, Eq)]
 pub struct CodeLength {
     /// How many bits a piece has.
     pub bits: u8,
@@ -40,7 +42,7 @@ impl CodeLength {
 }
 
 /// Why a pair of default lengths is refused.
-#[derive(Clone, Copy)]
+#[derive(Clone, Copy, Debug, PartialEq, Eq)]
 pub enum DefaultsFault {
     /// The absolute one is not from 1 to 14 (1).
     Absolute,
@@ -61,14 +63,14 @@ impl DefaultsFault {
 }
 
 /// How values count: from the origin, or from the point before.
-#[derive(Clone, Copy)]
+#[derive(Clone, Copy, Debug, PartialEq, Eq)]
 pub enum Mode {
     Absolute,
     Relative,
 }
 
 /// The default lengths of the two modes.
-#[derive(Clone, Copy)]
+#[derive(Clone, Copy, Debug, PartialEq, Eq)]
 pub struct Defaults {
     pub absolute: CodeLength,
     pub relative: CodeLength,
@@ -79,12 +81,8 @@ impl Defaults {
     pub fn new(absolute: u8, relative: u8) -> Result<Defaults, DefaultsFault>
         ensures { MatchResult result (λ d. (is_length absolute ≡ true) × (is_length relative ≡ true) × (d.absolute.bits ≡ absolute) × (d.relative.bits ≡ relative)) (Refuses absolute relative) }
     {
-        let Some(absolute) = CodeLength::new(absolute) else {
-            return Err(DefaultsFault::Absolute);
-        };
-        let Some(relative) = CodeLength::new(relative) else {
-            return Err(DefaultsFault::Relative);
-        };
+        let absolute = CodeLength::new(absolute).ok_or(DefaultsFault::Absolute)?;
+        let relative = CodeLength::new(relative).ok_or(DefaultsFault::Relative)?;
         Ok(Defaults { absolute, relative })
     }
 

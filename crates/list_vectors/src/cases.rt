@@ -1,9 +1,11 @@
 //! The examples of path data and transforms, with the bits that they should have.
 
-/// How many examples of lists there are.
+/// How many examples of lists there are: those of WORKED, the worked example in all, 4 other lists and 7 refusals.
+// A constant that is written out: the lists and refusals are calls of the program, and no table has them.
 pub const LISTS: usize = 20;
 
 /// The commands of the worked example, each alone with the configuration before it and DONE after it.
+// The texts and bits are given from outside; `example::commands` makes the same commands by our own constructors, and the two are compared.
 pub const WORKED: [(&str, &str); 8] = [
     ("M 64 42", "0101111 10111 10100 01 00 1000000 0101010 111"),
     ("l 1 5", "0101111 10111 10100 01 100 1000 1100 111"),

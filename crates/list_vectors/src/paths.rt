@@ -1,10 +1,9 @@
 //! The format's examples of path data and transforms, and what it refuses of them.
-use bits::{Sink, Source, StoreFault};
+use bits::{Sink, Source, Told};
 use commands::Command;
-use configurations::PathFields;
 use configurations::path::PathConfiguration;
+use configurations::{ConfigurationFault, PathFields};
 use flat::{FlatSink, FlatSource};
-use items::ItemKind;
 use items::faults::ListFault;
 use items::list::List;
 use lengths::{Defaults, Mode};
@@ -12,11 +11,15 @@ use lists::reading::read_list;
 use lists::writing::{list_length, write_list};
 use path_items::agreed::AgreedConfiguration;
 use path_items::kind::PathCommands;
+use telling::example::{FIELDS, with_moves};
+use telling::texts::put_text;
 use transform_items::Transforms;
 
-/// The configuration of the worked example: both modes, M, L and H, lengths 7 and 4 sent.
-pub fn worked_fields() -> PathFields {
-    fields(0b010_1111, 7, 4, 1)
+/// Path data: the fields of its configuration, and its commands.
+#[derive(Clone, Copy)]
+pub struct PathData<'a> {
+    pub fields: PathFields,
+    pub commands: &'a [Command],
 }
 
 /// A configuration with no mode sent and every curve that it declares.
@@ -31,38 +34,20 @@ pub fn fields(flags: u8, absolute: u8, relative: u8, lines: u8) -> PathFields {
     }
 }
 
-/// The commands of the worked example.
-pub fn worked_commands() -> [Command; 8] {
-    [
-        Command::move_to(Mode::Absolute, (64, 42)),
-        Command::line_to(Mode::Relative, (1, 5)),
-        Command::move_to(Mode::Absolute, (88, 42)),
-        Command::line_to(Mode::Relative, (1, 5)),
-        Command::move_to(Mode::Absolute, (76, 48)),
-        Command::line_to(Mode::Absolute, (76, 45)),
-        Command::move_to(Mode::Absolute, (73, 55)),
-        Command::horizontal_to(Mode::Relative, 7),
-    ]
-}
-
 /// The configuration of the fields with the default lengths.
-fn agreed(defaults: &Defaults, fields: PathFields) -> Option<AgreedConfiguration> {
-    match PathConfiguration::new(fields) {
-        Ok(configuration) => Some(AgreedConfiguration::new(configuration, *defaults)),
-        Err(_) => None,
-    }
+fn agreed(
+    defaults: &Defaults,
+    fields: PathFields,
+) -> Result<AgreedConfiguration, ConfigurationFault> {
+    let configuration = PathConfiguration::new(fields)?;
+    Ok(AgreedConfiguration::new(configuration, *defaults))
 }
 
 /// Writes path data, and answers how many bits are held then.
-pub fn write_path<S: Sink>(
-    sink: &mut S,
-    defaults: &Defaults,
-    fields: PathFields,
-    commands: &[Command],
-) -> usize {
-    if let Some(agreed) = agreed(defaults, fields) {
+pub fn write_path<S: Sink>(sink: &mut S, defaults: &Defaults, path: PathData) -> usize {
+    if let Ok(agreed) = agreed(defaults, path.fields) {
         let _ = agreed.configuration.write(sink);
-        let _ = write_list::<PathCommands, S>(&agreed, commands, sink);
+        let _ = write_list::<PathCommands, S>(&agreed, path.commands, sink);
     }
     S::held(sink)
 }
@@ -71,24 +56,14 @@ pub fn write_path<S: Sink>(
 pub fn reads_path<S: Source>(
     source: &mut S,
     defaults: &Defaults,
-    fields: PathFields,
-    commands: &[Command],
+    path: PathData,
 ) -> Result<bool, ListFault> {
     let configuration = PathConfiguration::read(source)?;
     let agreed = AgreedConfiguration::new(configuration, *defaults);
     let mut places = [Command::close(); 9];
     let mut list = List::over(&mut places);
     read_list::<PathCommands, S>(&agreed, source, &mut list)?;
-    let read = configuration.fields;
-    let mut same = read.flags == fields.flags
-        && read.absolute == fields.absolute
-        && read.relative == fields.relative
-        && read.lines == fields.lines
-        && list.len() == commands.len();
-    for (one, other) in list.as_slice().iter().zip(commands) {
-        same = same && one.number == other.number && one.values == other.values;
-    }
-    Ok(same)
+    Ok(configuration.fields == path.fields && list.as_slice() == path.commands)
 }
 
 /// Writes no transforms: the end word alone. Answers how many bits are held then.
@@ -97,53 +72,31 @@ pub fn write_no_transforms<S: Sink>(sink: &mut S, defaults: &Defaults) -> usize 
     S::held(sink)
 }
 
-/// Puts the bits of a text of 0, 1 and blanks.
-pub fn put_text<S: Sink>(sink: &mut S, text: &str) -> Result<usize, StoreFault> {
-    for letter in text.bytes() {
-        if letter != b' ' {
-            sink.put(letter == b'1')?;
-        }
-    }
-    Ok(S::held(sink))
-}
-
-/// The number of the refusal of a configuration in a text of bits, and its place.
-pub fn refused_configuration(text: &str) -> (u8, usize) {
+/// What the refusal of a configuration in a text of bits tells.
+pub fn refused_configuration(text: &str) -> Option<Told> {
     let mut bytes = [0u8; 4];
     let mut sink = FlatSink::over(&mut bytes, 0);
     let held = put_text(&mut sink, text).unwrap_or(0);
-    match PathConfiguration::read(&mut FlatSource::over(&bytes, held)) {
-        Ok(_) => (0, 0),
-        Err(fault) => {
-            let told = fault.told();
-            (told.number, told.position)
-        }
-    }
+    let fault = PathConfiguration::read(&mut FlatSource::over(&bytes, held)).err()?;
+    Some(fault.told())
 }
 
-/// The number of the refusal of M x 0, or 0.
-pub fn refused_value(defaults: &Defaults, x: i32) -> u8 {
-    let Some(agreed) = agreed(defaults, worked_fields()) else {
-        return 3;
+/// The number of the refusal of commands under the configuration of the worked example.
+fn refused_path(defaults: &Defaults, commands: &[Command]) -> Option<u8> {
+    let agreed = match agreed(defaults, FIELDS) {
+        Ok(agreed) => agreed,
+        Err(fault) => return Some(fault.number()),
     };
-    let command = Command::move_to(Mode::Absolute, (x, 0));
-    match list_length::<PathCommands>(&agreed, &[command]) {
-        Ok(_) => 0,
-        Err(fault) => fault.number(),
-    }
+    let fault = list_length::<PathCommands>(&agreed, commands).err()?;
+    Some(fault.number())
 }
 
-/// The number of the refusal of so many commands M 0 0, at most 4,097; or 0.
-pub fn refused_count(defaults: &Defaults, count: usize) -> u8 {
-    let Some(agreed) = agreed(defaults, worked_fields()) else {
-        return 3;
-    };
-    let commands = [Command::move_to(Mode::Absolute, (0, 0)); 4097];
-    if count > commands.len() {
-        return 12;
-    }
-    match list_length::<PathCommands>(&agreed, &commands[..count]) {
-        Ok(_) => 0,
-        Err(fault) => fault.number(),
-    }
+/// The number of the refusal of M x 0.
+pub fn refused_value(defaults: &Defaults, x: i32) -> Option<u8> {
+    refused_path(defaults, &[Command::move_to(Mode::Absolute, (x, 0))])
+}
+
+/// The number of the refusal of so many commands M 0 0, at most 4,097.
+pub fn refused_count(defaults: &Defaults, count: usize) -> Option<u8> {
+    with_moves(count, |commands| refused_path(defaults, commands))
 }

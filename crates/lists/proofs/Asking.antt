@@ -1,5 +1,5 @@
 -- What is asked of a list item by item.
-use Rattle.std.proofs.Common.{◌≡◌, ℕ, suc, ◌+◌, ◌<◌, ◌≤◌, Bool, true, false, cond, ◌&&◌, ltb, List, [], ◌∷◌, ◌++◌, length, get_or, drop, Some, None, Ok, Err, Option, sym, refl, ap, ◌∙◌, subst, append_assoc, arith, length-append}
+use Rattle.std.proofs.Common.{◌≡◌, ℕ, suc, ◌+◌, ◌<◌, Bool, true, false, cond, ◌&&◌, ltb, List, [], ◌∷◌, ◌++◌, length, get_or, drop, Some, None, Ok, Err, Option, sym, refl, ap, ◌∙◌, subst, append_assoc, arith, length-append}
 use Rattle.std.proofs.lemmas.List.{drop_more}
 use Rattle.items.specs.declared.faults.ItemFault.{ItemFault}
 use Rattle.items.specs.declared.faults.ItemFault.TheVariants.{Length, Unavailable, Value}
@@ -13,20 +13,20 @@ use Rattle.lists.specs.Writing.{lengths_asked, item_asked, or_else, at, first_no
 -- of two refusals neither is there
 or_none : {A : Type 0} (o p : Option A) → or_else o p ≡ None → (o ≡ None) × (p ≡ None)
 or_none None p e = (refl, e)
-or_none (Some a) p e = let z : ◌≡◌ {A = ℕ} 0 1 = cc in absurd (omega arith)
+or_none (Some a) p e = cc
 
 -- an item that is not refused
 at_none : (list : ListName) (i : ℕ) (o : Option ItemFault) → at list i o ≡ None → o ≡ None
 at_none list i None e = refl
-at_none list i (Some f) e = let z : ◌≡◌ {A = ℕ} 0 1 = cc in absurd (omega arith)
+at_none list i (Some f) e = cc
 
 -- what a call that was refused, or was not, says of the refusal
 pub unless_ok : {E A : Type 0} (o : Option E) (a b : A) → Ok b ≡ unless o a → (o ≡ None) × (b ≡ a)
 unless_ok None a b e = (refl, (cc))
-unless_ok (Some f) a b e = let z : ◌≡◌ {A = ℕ} 0 1 = cc in absurd (omega arith)
+unless_ok (Some f) a b e = cc
 
 pub unless_err : {E A : Type 0} (o : Option E) (a : A) (f : E) → Err f ≡ unless o a → o ≡ Some f
-unless_err None a f e = let z : ◌≡◌ {A = ℕ} 0 1 = cc in absurd (omega arith)
+unless_err None a f e = cc
 unless_err (Some h) a f e = cc
 
 -- the answers to the questions on an item
@@ -70,7 +70,7 @@ module _ {R : Type 0} (k : Kind R) (list : ListName) where
   lawful_unrefused limit rs e = go (ltb limit (length rs)) e
     where
       go : (b : Bool) → ◌≡◌ {A = Option ListWriteFault} (cond b (Some (Limit list)) (or_else (first_no list (λ r. lengths_asked (k.asked r)) 0 rs) (first_no list (λ r. item_asked (k.asked r)) 0 rs))) None → LawfulList k rs
-      go true e = let z : ◌≡◌ {A = ℕ} 0 1 = cc in absurd (omega arith)
+      go true e = cc
       go false e = let o = or_none (first_no list (λ r. lengths_asked (k.asked r)) 0 rs) (first_no list (λ r. item_asked (k.asked r)) 0 rs) e in lawful_all 0 rs o.0 o.1
 
 -- r is the item numbered i, and the others come after it
@@ -110,11 +110,3 @@ module _ {R : Type 0} (k : Kind R) {rs : List R} {i : ℕ} {r : R} (h : Here rs 
 
   pub lawful_here : LawfulList k (drop i rs) → (lawful k r ≡ true) × LawfulList k (drop (i + 1) rs)
   lawful_here l = subst (LawfulList k) h.split l
-
--- where the bits of what is left follow, there is room for the first part of them
-pub room_here : (held first more before whole : List Bool) (capacity : ℕ) → held ++ (first ++ more) ≡ before ++ whole → length before + length whole ≤ capacity
-    → length held + length first ≤ capacity
-room_here held first more before whole capacity e room =
-    let l = sym (length-append held (first ++ more)) ∙ ap length e ∙ length-append before whole in
-    let m = length-append first more in
-    omega arith

@@ -1,13 +1,13 @@
 -- The first pass over a list, which counts its items.
 use Rattle.std.proofs.Common.{◌≡◌, ℕ, suc, ◌+◌, ◌-◌, ◌<◌, ◌≤◌, Bool, true, false, List, ◌∷◌, length, is_some, Some, None, Ok, Err, Option, sym, refl, ap, ◌∙◌, arith}
-use Rattle.bits.specs.Stores.{Tape, left, Parse, got, refused, Reads}
+use Rattle.bits.specs.Stores.{Tape, left, Parse, got, refused, Reads, mapped}
 use Rattle.bits.proofs.Steps.{read_ok, read_err}
 use Rattle.lengths.specs.Coding.{PartAs}
 use Rattle.lengths.proofs.CodingLaws.{part_got, part_refused}
 use Rattle.items.specs.declared.faults.ListFault.{ListFault}
 use Rattle.items.specs.declared.faults.ListFault.TheVariants.{Limit, Place}
 use Rattle.items.specs.Kinds.{Kind, ReadExact, spelled}
-use Rattle.items.specs.Sequences.{onward, mapped}
+use Rattle.items.specs.Sequences.{onward}
 use Rattle.lists.specs.Lists.{one_list}
 use Rattle.items.proofs.SequenceLaws.{Went, went_on, went_onward, read_went}
 use Rattle.lists.proofs.ListLaws.{one_ended, one_item, one_past_limit, one_past_places, one_refused}
@@ -61,10 +61,10 @@ item_went k exact s t x inside reads =
 -- an item, and the end word, by the test for one
 some_is : {R : Type 0} (x : Option R) → is_some x ≡ true → (r : R) × (x ≡ Some r)
 some_is (Some r) e = (r, refl)
-some_is None e = let z : ◌≡◌ {A = ℕ} 0 1 = cc in absurd (omega arith)
+some_is None e = cc
 
 none_is : {R : Type 0} (x : Option R) → is_some x ≡ false → x ≡ None
-none_is (Some r) e = let z : ◌≡◌ {A = ℕ} 0 1 = cc in absurd (omega arith)
+none_is (Some r) e = cc
 none_is None e = refl
 
 -- a count that began at s, has n items, and reads on from t

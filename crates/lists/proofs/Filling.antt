@@ -1,14 +1,14 @@
 -- The second pass over a list, which stores the items of which there are n.
 use Rattle.std.proofs.Common.{◌≡◌, ℕ, ◌+◌, ◌-◌, ◌<◌, ◌≤◌, Bool, List, [], ◌∷◌, ◌++◌, length, take, drop, set, is_ok, Some, None, Ok, Err, Option, Result, sym, refl, ap, ◌∙◌, append_assoc, append-nil, arith, length-set, drop-drop, drop-set-lt}
 use Rattle.std.proofs.lemmas.List.{take_more_set, nil_from_length}
-use Rattle.bits.specs.Stores.{Tape, left, Parse, got, refused, Reads, ReadAs, Back, returned}
+use Rattle.bits.specs.Stores.{Tape, left, Parse, got, refused, Reads, ReadAs, Back, returned, mapped}
 use Rattle.bits.specs.declared.StoreFault.{StoreFault}
 use Rattle.lengths.specs.Coding.{PartAs}
 use Rattle.lengths.proofs.CodingLaws.{part_ok, part_err}
 use Rattle.bits.proofs.Steps.{read_got, read_refused}
 use Rattle.items.specs.declared.faults.ListFault.{ListFault}
 use Rattle.items.specs.Kinds.{Kind, ReadExact}
-use Rattle.items.specs.Sequences.{onward, mapped}
+use Rattle.items.specs.Sequences.{onward}
 use Rattle.lists.specs.Lists.{one_list}
 use Rattle.items.proofs.SequenceLaws.{Went, went_on, went_onward}
 use Rattle.lists.proofs.ListLaws.{begins}
@@ -87,7 +87,7 @@ module _ {R : Type 0} {k : Kind R} {limit places n : ℕ} {s t : Tape} {old all 
 
 -- a count that is refused is a list that is refused
 uncounted : {E R : Type 0} (x : Parse E (List R)) (f : E) → mapped length x ≡ refused f → x ≡ refused f
-uncounted (got rs rest) f e = let z : ◌≡◌ {A = ℕ} 0 1 = cc in absurd (omega arith)
+uncounted (got rs rest) f e = cc
 uncounted (refused g) f e = cc
 
 -- after the first pass, from s to t, the source goes back to where it began: to u at a refusal, and to v after a count

@@ -1,14 +1,15 @@
 -- The item law, carried to lists.
 use Rattle.std.proofs.Common.{◌≡◌, ℕ, zero, suc, ◌+◌, ◌-◌, ◌≤◌, Bool, List, [], ◌∷◌, ◌++◌, length, Some, None, Option, Result, refl, ap, ◌∙◌, append_assoc, append-nil, le_of_suc-le-suc, arith}
-use Rattle.bits.specs.Stores.{Tape, got, refused, Reads}
+use Rattle.bits.specs.Stores.{Tape, got, refused, Reads, mapped}
 use Rattle.lengths.specs.Coding.{Faithful}
 use Rattle.lengths.proofs.CodingLaws.{faithful}
 use Rattle.items.specs.declared.faults.ListFault.{ListFault}
 use Rattle.items.specs.declared.faults.ListFault.TheVariants.{Limit, Place}
 use Rattle.items.specs.Kinds.{Kind, ReadBack, ReadExact}
-use Rattle.items.specs.Sequences.{onward, mapped}
+use Rattle.items.specs.Sequences.{onward}
 use Rattle.lists.specs.Lists.{list_bits, LawfulWithin, PrefixFree, goes_on, one_list}
-use Rattle.items.proofs.SequenceLaws.{mapped_got, followed_got}
+use Rattle.bits.proofs.Steps.{mapped_got}
+use Rattle.items.proofs.SequenceLaws.{followed_got}
 
 module _ {R : Type 0} (k : Kind R) where
   -- a list is read by what its first item is read as: the end word, an item, one past the limit, one that has no place, or none
@@ -46,7 +47,7 @@ module _ {R : Type 0} (k : Kind R) where
   -- the end word was read, or an item that is refused
   ends_only : (f : ListFault) (x : Option R) (more : List Bool) (xs : List R) (rest : List Bool) → goes_on (λ r. refused f) more x ≡ got xs rest → (x ≡ None) × (more ≡ rest) × (xs ≡ [])
   ends_only f None more xs rest e = (refl, (cc), (cc))
-  ends_only f (Some r) more xs rest e = let z : ◌≡◌ {A = ℕ} 0 1 = cc in absurd (omega arith)
+  ends_only f (Some r) more xs rest e = cc
 
   -- the end word was read, or an item and the list after it
   begins_or : (limit places at : ℕ) (bits more : List Bool) (x : Option R) (xs : List R) (rest : List Bool) → k.parse at bits ≡ got x more

@@ -1,10 +1,10 @@
 -- Lists of items of one kind.
 use Rattle.std.specs.Prelude.{◌≡◌, ℕ, zero, suc, ◌≤◌, Bool, true, List, [], ◌∷◌, ◌++◌, length, Some, None, Option}
-use Rattle.bits.specs.Stores.{Parse, got, refused}
+use Rattle.bits.specs.Stores.{Parse, got, refused, mapped}
 use Rattle.items.specs.declared.faults.ListFault.{ListFault}
 use Rattle.items.specs.declared.faults.ListFault.TheVariants.{Limit, Place}
 use Rattle.items.specs.Kinds.{Kind, lawful}
-use Rattle.items.specs.Sequences.{followed, mapped}
+use Rattle.items.specs.Sequences.{followed}
 
 -- the bits of the items in order
 abbrev pub items_bits : {R : Type 0} → Kind R → List R → List Bool

@@ -1,6 +1,6 @@
 -- What is asked of a list before it is written, and what writing does.
-use Rattle.std.specs.Prelude.{◌≡◌, ℕ, suc, ◌+◌, ◌<◌, ◌≤◌, Bool, cond, List, [], ◌∷◌, ◌++◌, length, Some, None, Ok, Err, Option, Result, nat_lt}
-use Rattle.bits.specs.Stores.{Content}
+use Rattle.std.specs.Prelude.{◌≡◌, ℕ, suc, ◌+◌, ◌<◌, Bool, cond, List, [], ◌∷◌, length, Some, None, Ok, Err, Option, Result, nat_lt}
+use Rattle.bits.specs.Stores.{Content, HasRoom, appended}
 use Rattle.bits.specs.declared.StoreFault.TheVariants.{Full}
 use Rattle.items.specs.declared.faults.ItemFault.{ItemFault}
 use Rattle.items.specs.declared.faults.ItemFault.TheVariants.{Length, Unavailable, Value}
@@ -48,5 +48,5 @@ unless None a = Ok a
 abbrev pub WroteList : Option ListWriteFault → List Bool → Content → Result ℕ ListWriteFault → Content → Type 0
 WroteList (Some f) code s r t = (r ≡ Err f) × (t ≡ s)
 WroteList None code s (Ok n) t =
-    (n ≡ length code) × (length s.bits + length code ≤ s.capacity) × (t ≡ record { bits = s.bits ++ code; capacity = s.capacity })
+    (n ≡ length code) × HasRoom s code × (t ≡ appended s code)
 WroteList None code s (Err e) t = (s.capacity < length s.bits + length code) × (e ≡ Store (Full (length s.bits))) × (t ≡ s)

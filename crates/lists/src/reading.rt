@@ -1,8 +1,7 @@
 //! Lists, read. A first pass reads and asks without storing, the source goes back, and a second pass stores.
 ghost use Rattle.std.specs.Prelude.{◌≡◌, ℕ, ◌≤◌, Bool, List as Row, length, IfOk, Some, None, Ok};
-ghost use Rattle.bits.specs.Stores.{left, Reads, got};
-ghost use Rattle.lengths.specs.Coding.{Faithful, PartAs};
-ghost use Rattle.items.specs.Sequences.{mapped};
+ghost use Rattle.bits.specs.Stores.{left, Reads, got, mapped};
+ghost use Rattle.lengths.specs.Coding.{Faithful, Takes};
 ghost use Rattle.lists.specs.Lists.{list_bits, LawfulWithin, one_list};
 ghost use Rattle.items.specs.Places.{places_of, Filled, held_by};
 ghost use Rattle.items.specs.declared.faults.ListFault.{ListFault};
@@ -18,10 +17,10 @@ fn count_items<K: ItemKind, S: Source>(
     source: &mut S,
     places: usize,
 ) -> Result<usize, ListFault>
-    ensures part { PartAs (mapped length (one_list (K.ItemKind.kind configuration.now) K.ItemKind.limit places (S.Source.tape source.old).position (left (S.Source.tape source.old)))) (S.Source.tape source.old) result (S.Source.tape source.new) }
+    ensures part { Takes (λ at bits. mapped length (one_list (K.kind configuration.now) K.LIMIT places at bits)) (S.tape source.old) result (S.tape source.new) }
     ensures within { IfOk result (λ n. n ≤ places) }
 {
-    let most = K::most_items();
+    // A loop, since how many items there are is known only once they are read.
     let mut count = 0;
     loop {
         let position = S::position(source);
@@ -29,7 +28,7 @@ fn count_items<K: ItemKind, S: Source>(
         if item.is_none() {
             return Ok(count);
         }
-        if count >= most {
+        if count >= K::LIMIT {
             return Err(ListFault::Limit { position });
         }
         if count >= places {
@@ -41,16 +40,13 @@ fn count_items<K: ItemKind, S: Source>(
 
 /// Reads an item where one is known to begin.
 fn next_item<K: ItemKind, S: Source>(configuration: &K::Configuration, source: &mut S) -> K::Record
-    requires { (r : K.Record) × (rest : Row Bool) × ((K.ItemKind.kind configuration.now).parse (S.Source.tape source.old).position (left (S.Source.tape source.old)) ≡ got (Some r) rest) }
-    ensures { Reads (K.ItemKind.kind configuration.now).parse (S.Source.tape source.old) (Ok (Some result)) (S.Source.tape source.new) }
+    requires { (r : K.Record) × (rest : Row Bool) × ((K.kind configuration.now).parse (S.tape source.old).position (left (S.tape source.old)) ≡ got (Some r) rest) }
+    ensures { Reads (K.kind configuration.now).parse (S.tape source.old) (Ok (Some result)) (S.tape source.new) }
 {
-    match K::read(configuration, source) {
-        Ok(answer) => match answer {
-            Some(item) => item,
-            None => unreachable(),
-        },
-        Err(_) => unreachable(),
-    }
+    let Ok(Some(item)) = K::read(configuration, source) else {
+        unreachable!()
+    };
+    item
 }
 
 /// The second pass: stores the items, whose count is known, and takes the end word.
@@ -60,10 +56,10 @@ fn fill<K: ItemKind, S: Source>(
     list: &mut List<'_, K::Record>,
     count: usize,
 )
-    requires { (count ≤ length (places_of list.old).all) × (((rest : Row Bool) × (mapped length (one_list (K.ItemKind.kind configuration.now) K.ItemKind.limit (length (places_of list.old).all) (S.Source.tape source.old).position (left (S.Source.tape source.old))) ≡ got count rest))) }
+    requires { (count ≤ length (places_of list.old).all) × (((rest : Row Bool) × (mapped length (one_list (K.kind configuration.now) K.LIMIT (length (places_of list.old).all) (S.tape source.old).position (left (S.tape source.old))) ≡ got count rest))) }
     ensures lent { list.new.places.ghost_name ≡ list.old.places.ghost_name }
     ensures filled { Filled {E = ListFault} (places_of list.old) (Ok count) (places_of list.new) }
-    ensures reads { Reads (one_list (K.ItemKind.kind configuration.now) K.ItemKind.limit (length (places_of list.old).all)) (S.Source.tape source.old) (held_by (Ok count) (places_of list.new)) (S.Source.tape source.new) }
+    ensures reads { Reads (one_list (K.kind configuration.now) K.LIMIT (length (places_of list.old).all)) (S.tape source.old) (held_by (Ok count) (places_of list.new)) (S.tape source.new) }
 {
     for index in 0..count {
         let item = next_item::<K, S>(configuration, source);
@@ -83,8 +79,8 @@ pub fn read_list<K: ItemKind, S: Source>(
 ) -> Result<usize, ListFault>
     ensures lent { list.new.places.ghost_name ≡ list.old.places.ghost_name }
     ensures filled { Filled (places_of list.old) result (places_of list.new) }
-    ensures reads { Reads (one_list (K.ItemKind.kind configuration.now) K.ItemKind.limit (length (places_of list.old).all)) (S.Source.tape source.old) (held_by result (places_of list.new)) (S.Source.tape source.new) }
-    ensures faithful { Faithful (list_bits (K.ItemKind.kind configuration.now)) (LawfulWithin (K.ItemKind.kind configuration.now) K.ItemKind.limit (length (places_of list.old).all)) (S.Source.tape source.old) (held_by result (places_of list.new)) (S.Source.tape source.new) }
+    ensures reads { Reads (one_list (K.kind configuration.now) K.LIMIT (length (places_of list.old).all)) (S.tape source.old) (held_by result (places_of list.new)) (S.tape source.new) }
+    ensures faithful { Faithful (list_bits (K.kind configuration.now)) (LawfulWithin (K.kind configuration.now) K.LIMIT (length (places_of list.old).all)) (S.tape source.old) (held_by result (places_of list.new)) (S.tape source.new) }
 {
     let start = S::position(source);
     let counted = count_items::<K, S>(configuration, source, list.capacity());

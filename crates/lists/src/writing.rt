@@ -1,5 +1,6 @@
 //! Lists, measured and written.
-ghost use Rattle.std.specs.Prelude.{◌≡◌, ℕ, ◌+◌, ◌*◌, ◌≤◌, ◌++◌, length, IfOk, None};
+ghost use Rattle.std.specs.Prelude.{◌≡◌, ℕ, ◌*◌, ◌≤◌, length, IfOk, None};
+ghost use Rattle.bits.specs.Stores.{HasRoom, appended};
 ghost use Rattle.items.specs.declared.faults.ListWriteFault.TheVariants.{Item};
 ghost use Rattle.lists.specs.Lists.{list_bits, LawfulList, PrefixFree};
 ghost use Rattle.lists.specs.Writing.{lengths_asked, item_asked, first_no, refusal, unless, WroteList};
@@ -10,9 +11,9 @@ use items::faults::{ItemFault, ItemPlace, ListWriteFault};
 
 /// A fault at an item.
 fn at_item<K: ItemKind>(index: usize, fault: ItemFault) -> ListWriteFault
-    ensures { result ≡ Item (record { list = K.ItemKind.list; index = index }) fault }
+    ensures { result ≡ Item (record { list = K.LIST; index = index }) fault }
 {
-    let list = K::list_name();
+    let list = K::LIST;
     ListWriteFault::Item(ItemPlace { list, index }, fault)
 }
 
@@ -21,7 +22,7 @@ pub fn ask_lengths<K: ItemKind>(
     configuration: &K::Configuration,
     items: &[K::Record],
 ) -> Result<(), ListWriteFault>
-    ensures { result ≡ unless (first_no K.ItemKind.list (λ i. lengths_asked ((K.ItemKind.kind configuration.now).asked i)) 0 items.now) tt }
+    ensures { result ≡ unless (first_no K.LIST (λ i. lengths_asked ((K.kind configuration.now).asked i)) 0 items.now) tt }
 {
     for (index, item) in items.iter().enumerate() {
         if !K::lengths_lawful(configuration, item) {
@@ -37,8 +38,8 @@ pub fn measure<K: ItemKind>(
     configuration: &K::Configuration,
     items: &[K::Record],
 ) -> Result<usize, ListWriteFault>
-    requires { (length items.now ≤ K.ItemKind.limit) × (first_no K.ItemKind.list (λ i. lengths_asked ((K.ItemKind.kind configuration.now).asked i)) 0 items.now ≡ None) }
-    ensures value { result ≡ unless (first_no K.ItemKind.list (λ i. item_asked ((K.ItemKind.kind configuration.now).asked i)) 0 items.now) (length (list_bits (K.ItemKind.kind configuration.now) items.now)) }
+    requires { (length items.now ≤ K.LIMIT) × (first_no K.LIST (λ i. lengths_asked ((K.kind configuration.now).asked i)) 0 items.now ≡ None) }
+    ensures value { result ≡ unless (first_no K.LIST (λ i. item_asked ((K.kind configuration.now).asked i)) 0 items.now) (length (list_bits (K.kind configuration.now) items.now)) }
     ensures bound { IfOk result (λ n. n ≤ 16777216 * 65537) }
 {
     let mut total = K::end_length(configuration);
@@ -60,10 +61,10 @@ pub fn list_length<K: ItemKind>(
     configuration: &K::Configuration,
     items: &[K::Record],
 ) -> Result<usize, ListWriteFault>
-    ensures { result ≡ unless (refusal (K.ItemKind.kind configuration.now) K.ItemKind.list K.ItemKind.limit items.now) (length (list_bits (K.ItemKind.kind configuration.now) items.now)) }
+    ensures { result ≡ unless (refusal (K.kind configuration.now) K.LIST K.LIMIT items.now) (length (list_bits (K.kind configuration.now) items.now)) }
 {
-    if items.len() > K::most_items() {
-        return Err(ListWriteFault::Limit(K::list_name()));
+    if items.len() > K::LIMIT {
+        return Err(ListWriteFault::Limit(K::LIST));
     }
     ask_lengths::<K>(configuration, items)?;
     measure::<K>(configuration, items)
@@ -75,10 +76,9 @@ pub fn append_list<K: ItemKind, S: Sink>(
     items: &[K::Record],
     sink: &mut S,
 )
-    requires { (LawfulList (K.ItemKind.kind configuration.now) items.now) × (length (S.Sink.content sink.old).bits + length (list_bits (K.ItemKind.kind configuration.now) items.now) ≤ (S.Sink.content sink.old).capacity) }
-    ensures kept { S.Sink.kept sink.old sink.new }
-    ensures capacity { (S.Sink.content sink.new).capacity ≡ (S.Sink.content sink.old).capacity }
-    ensures bits { (S.Sink.content sink.new).bits ≡ (S.Sink.content sink.old).bits ++ list_bits (K.ItemKind.kind configuration.now) items.now }
+    requires { (LawfulList (K.kind configuration.now) items.now) × HasRoom (S.content sink.old) (list_bits (K.kind configuration.now) items.now) }
+    ensures kept { S.kept sink.old sink.new }
+    ensures content { S.content sink.new ≡ appended (S.content sink.old) (list_bits (K.kind configuration.now) items.now) }
 {
     for item in items {
         K::append(configuration, item, sink);
@@ -93,9 +93,9 @@ pub fn write_list<K: ItemKind, S: Sink>(
     items: &[K::Record],
     sink: &mut S,
 ) -> Result<usize, ListWriteFault>
-    ensures kept { S.Sink.kept sink.old sink.new }
-    ensures wrote { WroteList (refusal (K.ItemKind.kind configuration.now) K.ItemKind.list K.ItemKind.limit items.now) (list_bits (K.ItemKind.kind configuration.now) items.now) (S.Sink.content sink.old) result (S.Sink.content sink.new) }
-    ensures alone { PrefixFree (K.ItemKind.kind configuration.now) }
+    ensures kept { S.kept sink.old sink.new }
+    ensures wrote { WroteList (refusal (K.kind configuration.now) K.LIST K.LIMIT items.now) (list_bits (K.kind configuration.now) items.now) (S.content sink.old) result (S.content sink.new) }
+    ensures alone { PrefixFree (K.kind configuration.now) }
 {
     let length = list_length::<K>(configuration, items)?;
     sink.room_for(length)?;

@@ -1,16 +1,17 @@
 -- The code of a natural number is read back, and only codes are read.
-use Rattle.std.proofs.Common.{◌≡◌, ℕ, zero, suc, ◌+◌, ◌*◌, ◌/◌, ◌%◌, ◌^◌, ◌<◌, ◌≤◌, Bool, true, false, cond, eqb, ltb, ◌⊎◌, List, [], ◌∷◌, ◌++◌, length, take, drop, sym, refl, ap, ◌∙◌, inl, inr, ⊎_elim, append_assoc, mod-lt, suc-mul, div-add-mod', arith, length-append, length-drop, take-append-drop, length-take-le, take_at, drop_at}
+use Rattle.std.proofs.Common.{◌≡◌, ℕ, nat_le, zero, suc, ◌+◌, ◌*◌, ◌/◌, ◌%◌, ◌^◌, ◌<◌, ◌≤◌, Bool, true, false, cond, eqb, ltb, ◌⊎◌, List, [], ◌∷◌, ◌++◌, length, take, drop, sym, refl, ap, ◌∙◌, inl, inr, ⊎_elim, append_assoc, mod-lt, suc-mul, div-add-mod', arith, length-append, length-drop, take-append-drop, length-take-le, take_at, drop_at}
 use lib.Arith.{digits_div, digits_mod}
 use lib.ListN.{length-replicate}
-use Rattle.std.proofs.lemmas.Bool.{le-ltb, lt-ltb, eq-eqb, ne_eqb, ltb-false, eqb-true, eqb-false}
+use Rattle.std.proofs.lemmas.Bool.{le-leb, leb-true, le-ltb, lt-ltb, eq-eqb, ne_eqb, ltb-false, eqb-true, eqb-false}
 use Rattle.bits.specs.Codes.{fixed, number}
 use Rattle.bits.specs.Stores.{Parse, got, refused}
 use Rattle.bits.specs.declared.StoreFault.TheVariants.{End}
 use Rattle.bits.proofs.Codes.{number_lt, length_fixed, number_field, fixed_number}
 use Rattle.lengths.specs.declared.faults.NumberFault.{NumberFault}
 use Rattle.lengths.specs.declared.faults.NumberFault.TheVariants.{Store, Range}
+use Rattle.lengths.specs.Coding.{CodeLaw}
 use Rattle.lengths.specs.Lengths.{largest}
-use Rattle.naturals.specs.Naturals.{ones, times, natural_code, decided, judged, pieces}
+use Rattle.naturals.specs.Naturals.{ones, times, natural_code, decided, judged, pieces, one_natural, sum_limit}
 use Rattle.naturals.proofs.Pieces.{largest_pos, number_ones, ones_from_largest}
 
 -- reading a number of at most m whose first bit is at `at`
@@ -71,8 +72,8 @@ module _ (m at : ℕ) where
 
       go : (a b c : Bool) → ltb (length bits) cl ≡ a → ltb m (sum + p) ≡ b → eqb p (largest cl) ≡ c
           → cond a (refused (Store (End at))) (cond b (refused (Range at)) (cond c more (got (sum + p) (drop cl bits)))) ≡ got v rest → Verdict cl sum bits more v rest
-      go true b c ea eb ec e = let z : ◌≡◌ {A = ℕ} 0 1 = cc in absurd (omega arith)
-      go false true c ea eb ec e = let z : ◌≡◌ {A = ℕ} 0 1 = cc in absurd (omega arith)
+      go true b c ea eb ec e = cc
+      go false true c ea eb ec e = cc
       go false false true ea eb ec e = (ltb-false (length bits) cl ea, ltb-false m (sum + p) eb, inl (eqb-true p (largest cl) ec, e))
       go false false false ea eb ec e = (ltb-false (length bits) cl ea, ltb-false m (sum + p) eb, inr (eqb-false p (largest cl) ec, (cc), (cc)))
 
@@ -152,3 +153,11 @@ module _ (m at : ℕ) where
       let e : v ≡ largest (suc k) = omega (arith, rw (length-take-le (suc k) bits h) at (number_lt (take (suc k) bits))) in
       read_step k sum bits
       ∙ rw (le-ltb (length bits) (suc k) h, le-ltb m (sum + v) b, eq-eqb v (largest (suc k)) e) (ap (λ n. pieces m (suc k) at (sum + n) 0 (drop (suc k) bits)) (sym e))
+
+-- the law of natural numbers at a code length
+pub natural_law : (cl : ℕ) → 1 ≤ cl → CodeLaw (λ n. nat_le n sum_limit) (natural_code cl) (one_natural cl)
+natural_law cl one =
+    record {
+      back = λ at n rest h. back sum_limit at cl n rest one (leb-true n sum_limit h);
+      exact = λ at n bits rest e. let x = only sum_limit at cl n bits rest one e in (le-leb n sum_limit x.1, x.0);
+    }

@@ -1,8 +1,7 @@
 -- Pieces, and how a natural number's code goes piece by piece.
-use Rattle.std.proofs.Common.{◌≡◌, ℕ, zero, suc, ◌+◌, ◌-◌, ◌*◌, ◌/◌, ◌%◌, ◌^◌, ◌<◌, ◌≤◌, Bool, true, List, ◌++◌, length, sym, refl, ap, ◌∙◌, append_assoc, mod-lt, mod-eq_of_lt, suc-mul, pow-suc, div-add-mod', arith}
-use native.Mathlib.Nat.{div-eq_of_lt}
-use lib.Arith.{digits_div, digits_mod}
+use Rattle.std.proofs.Common.{◌≡◌, ℕ, zero, suc, ◌+◌, ◌/◌, ◌%◌, ◌^◌, ◌<◌, ◌≤◌, Bool, true, List, ◌++◌, length, sym, refl, ap, ◌∙◌, append_assoc, pow-suc, add-one, arith}
 use lib.ListN.{length-replicate}
+use Rattle.std.proofs.lemmas.List.{append-nil}
 use Rattle.std.proofs.lemmas.Nat.{pow_pos}
 use Rattle.bits.specs.Codes.{fixed, number}
 use Rattle.bits.proofs.Codes.{fixed_number}
@@ -27,18 +26,15 @@ pub fixed_largest : (k : ℕ) → fixed k (largest k) ≡ ones k
 fixed_largest k =
     ap (λ j. fixed j (largest k)) (sym (length-replicate k true)) ∙ ap (fixed (length (ones k))) (sym (number_ones k)) ∙ fixed_number (ones k)
 
--- from the largest piece on, a code begins with a piece of ones
-pub code_more : (cl r : ℕ) → 0 < largest cl → largest cl ≤ r → natural_code cl r ≡ fixed cl (largest cl) ++ natural_code cl (r - largest cl)
-unfolding natural_code
-code_more cl r p h =
-    let t = largest cl in
-    let s = r - t in
-    let e : r ≡ suc (s / t) * t + s % t = omega (arith, div-add-mod' s t, suc-mul (s / t) t) in
-    let q : r / t ≡ suc (s / t) = ap (λ n. n / t) e ∙ digits_div (suc (s / t)) (mod-lt s p) in
-    let m : r % t ≡ s % t = ap (λ n. n % t) e ∙ digits_mod (suc (s / t)) (mod-lt s p) in
-    rw (q, m, fixed_largest cl) (append_assoc (ones cl) (times (s / t) (ones cl)) (fixed cl (s % t)))
+-- one more at the end
+times_next : (n : ℕ) (bs : List Bool) → times (suc n) bs ≡ times n bs ++ bs
+times_next zero bs = append-nil bs
+times_next (suc n) bs = ap (λ xs. bs ++ xs) (times_next n bs) ∙ sym (append_assoc bs (times n bs) bs)
 
--- below it, the code is one piece
-pub code_last : (cl r : ℕ) → r < largest cl → natural_code cl r ≡ fixed cl r
+pub times_more : (n : ℕ) (bs : List Bool) → times (n + 1) bs ≡ times n bs ++ bs
+times_more n bs = ap (λ k. times k bs) (add-one n) ∙ times_next n bs
+
+-- the pieces of ones and the last piece are the code
+pub code_parts : (cl r k d : ℕ) → d ≡ largest cl → k ≡ r / d → times k (ones cl) ++ fixed cl (r % d) ≡ natural_code cl r
 unfolding natural_code
-code_last cl r h = rw (div-eq_of_lt h, mod-eq_of_lt h)
+code_parts cl r k d top all = rw (all, top) refl

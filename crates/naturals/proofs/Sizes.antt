@@ -1,5 +1,5 @@
 -- How many bits a code has.
-use Rattle.std.proofs.Common.{◌≡◌, ℕ, zero, suc, ◌+◌, ◌*◌, ◌/◌, ◌%◌, ◌≤◌, Bool, true, List, ◌++◌, length, ap, ◌∙◌, suc-mul, mul_comm, mul-le-mul_left, pow-suc, mul-add, div-mul-le_self, arith, length-append}
+use Rattle.std.proofs.Common.{◌≡◌, ℕ, zero, suc, ◌+◌, ◌*◌, ◌/◌, ◌%◌, ◌≤◌, Bool, true, List, length, ap, ◌∙◌, suc-mul, mul_comm, mul-le-mul_left, pow-suc, mul-add, div-mul-le_self, arith, length-append}
 use lib.ListN.{length-replicate}
 use Rattle.std.proofs.lemmas.Nat.{pow_pos}
 use Rattle.bits.specs.Codes.{fixed}
@@ -28,18 +28,8 @@ natural_near cl r =
     let q = r / largest cl in
     omega (arith, mul-add cl q 1, mul_comm cl q, mul-le-mul_left q (le_largest cl), div-mul-le_self r (largest cl))
 
--- a code has at least one piece
-natural_long : (cl r : ℕ) → cl ≤ length (natural_code cl r)
-natural_long cl r = omega (arith, length_natural cl r, mul-add cl (r / largest cl) 1)
-
--- what is held and what is left of a code have one length in all
-length_rest : (held rest before all : List Bool) → held ++ rest ≡ before ++ all → length held + length rest ≡ length before + length all
-length_rest held rest before all e =
-    let l : length (held ++ rest) ≡ length (before ++ all) = ap length e in
-    omega (arith, simp length-append at l)
-
--- where there was room for a whole code, there is room for a piece of what is left of it
-pub room_left : (cl left r : ℕ) (held before : List Bool) {room whole : ℕ} → held ++ natural_code cl left ≡ before ++ natural_code cl r → room ≡ whole
-    → length before + length (natural_code cl r) ≤ whole → length held + cl ≤ room
-room_left cl left r held before e same h =
-    omega (arith, natural_long cl left, length_rest held (natural_code cl left) before (natural_code cl r) e)
+-- some of the pieces of ones, and one piece more
+pub piece_fits : (cl r k : ℕ) → k ≤ r / largest cl → length (times k (ones cl)) + cl ≤ length (natural_code cl r)
+piece_fits cl r k h =
+    let l : cl * (k + 1) ≤ cl * (r / largest cl + 1) = mul-le-mul_left cl (omega arith) in
+    omega (arith, length_natural cl r, length_times k (ones cl), ap (λ n. k * n) (length-replicate cl true), mul_comm k cl, mul-add cl k 1)

@@ -1,92 +1,81 @@
 //! Natural numbers in pieces.
 #![tactic(auto)]
 
-ghost use Rattle.std.specs.Prelude.{◌≡◌, ℕ, ◌+◌, ◌*◌, ◌≤◌, ◌++◌, length, IfOk, nat_le};
-ghost use Rattle.bits.specs.Stores.{left, Reads};
-ghost use Rattle.lengths.specs.Coding.{Wrote, Faithful, PartAs};
+ghost use Rattle.std.specs.Prelude.{◌≡◌, ℕ, ◌+◌, ◌≤◌, ◌++◌, length, IfOk, nat_le};
+ghost use Rattle.bits.specs.Stores.{left};
+ghost use Rattle.lengths.specs.Coding.{CodeLaw, PartAs};
 ghost use Rattle.naturals.specs.Naturals.{natural_code, one_natural, sum_limit};
 
-use bits::{Sink, Source, append, or_back, take_part};
+use bits::{Sink, Source, append, take_part};
 use lengths::CodeLength;
-use lengths::faults::{NumberFault, WriteFault};
+use lengths::codes::Code;
+use lengths::faults::NumberFault;
 
 /// The largest sum of a number's pieces, and so the largest natural number.
 pub const SUM_LIMIT: u32 = 2_097_152;
 
-/// How many bits the code of a number has.
-pub fn natural_length(code_length: CodeLength, number: u32) -> usize
-    ensures value { result ≡ length (natural_code code_length.bits number) }
-    ensures near { result ≤ number + 14 }
-{
-    code_length.bits as usize * ((number / code_length.largest()) as usize + 1)
+/// Natural numbers at a code length, as a code. One over `SUM_LIMIT` is not lawful.
+#[derive(Clone, Copy, Debug, PartialEq, Eq)]
+pub struct Naturals {
+    pub code_length: CodeLength,
 }
 
-/// Puts the code of a number where room for it is known. For this layer and those above.
-pub fn append_natural<S: Sink>(sink: &mut S, code_length: CodeLength, number: u32)
-    requires { length (S.content sink.old).bits + length (natural_code code_length.bits number) ≤ (S.content sink.old).capacity }
-    ensures kept { S.kept sink.old sink.new }
-    ensures capacity { (S.content sink.new).capacity ≡ (S.content sink.old).capacity }
-    ensures bits { (S.content sink.new).bits ≡ (S.content sink.old).bits ++ natural_code code_length.bits number }
-{
-    let largest = code_length.largest();
-    let mut left = number;
-    while left >= largest {
-        append(sink, code_length.bits, largest);
-        left -= largest;
+impl Code for Naturals {
+    type Value = u32;
+
+    type Plain = u32;
+
+    type Fault = NumberFault;
+
+    ghost plain = { λ n. n };
+
+    ghost lawful = { λ s n. nat_le n sum_limit };
+
+    ghost code = { λ s. natural_code s.code_length.bits };
+
+    ghost parse = { λ s. one_natural s.code_length.bits };
+
+    fn is_lawful(&self, number: u32) -> bool {
+        number <= SUM_LIMIT
     }
-    append(sink, code_length.bits, left);
-}
 
-/// Writes a number of at most `SUM_LIMIT`, and answers how many bits that took. One that is larger is refused with 15, want of room with 10.
-pub fn write_natural<S: Sink>(
-    sink: &mut S,
-    code_length: CodeLength,
-    number: u32,
-) -> Result<usize, WriteFault>
-    ensures kept { S.kept sink.old sink.new }
-    ensures wrote { Wrote (nat_le number sum_limit) (natural_code code_length.bits number) (S.content sink.old) result (S.content sink.new) }
-{
-    if number > SUM_LIMIT {
-        return Err(WriteFault::Value);
+    fn length(&self, number: u32) -> usize
+        ensures value { result ≡ length (natural_code self.now.code_length.bits number) }
+        ensures near { result ≤ number + 14 }
+    {
+        let pieces = (number / self.code_length.largest()) as usize + 1;
+        self.code_length.bits as usize * pieces
     }
-    let length = natural_length(code_length, number);
-    sink.room_for(length)?;
-    append_natural(sink, code_length, number);
-    Ok(length)
-}
 
-/// The pieces of a number up to the first that is not all ones. The number is a part of the field that begins at `field`; a refusal
-/// leaves the source further on. For the layers above.
-pub fn take_pieces<S: Source>(
-    source: &mut S,
-    code_length: CodeLength,
-    field: usize,
-) -> Result<u32, NumberFault>
-    ensures part { PartAs (one_natural code_length.bits field (left (S.tape source.old))) (S.tape source.old) result (S.tape source.new) }
-    ensures small { IfOk result (λ n. n ≤ sum_limit) }
-{
-    let largest = code_length.largest();
-    let mut sum = 0u32;
-    let number = loop {
-        let piece = take_part(source, code_length.bits, field)?;
-        if sum + piece > SUM_LIMIT {
-            return Err(NumberFault::Range { position: field });
+    fn append_to<S: Sink>(&self, sink: &mut S, number: u32) {
+        let largest = self.code_length.largest();
+        for _piece in 0..number / largest {
+            append(sink, self.code_length.bits, largest);
         }
-        sum += piece;
-        if piece < largest {
-            break sum;
-        }
-    };
-    Ok(number)
-}
+        append(sink, self.code_length.bits, number % largest);
+    }
 
-/// Reads a number. A source that ends within it is refused with 17 and a sum of pieces over `SUM_LIMIT` with 22, both told at its first bit;
-/// then the source is as before.
-pub fn read_natural<S: Source>(source: &mut S, code_length: CodeLength) -> Result<u32, NumberFault>
-    ensures reads { Reads (one_natural code_length.bits) (S.tape source.old) result (S.tape source.new) }
-    ensures faithful { Faithful (natural_code code_length.bits) (λ n. n ≤ sum_limit) (S.tape source.old) result (S.tape source.new) }
-{
-    let start = source.position();
-    let answer = take_pieces(source, code_length, start);
-    or_back(source, start, answer)
+    /// Pieces are taken up to the first that is not all ones. A source that ends within them is refused with 17, and a sum of pieces over
+    /// `SUM_LIMIT` with 22.
+    #[tactic(auto, using(crate::proofs::NaturalLaws::natural_law))]
+    fn take<S: Source>(&self, source: &mut S, field: usize) -> Result<u32, NumberFault>
+        ensures part { PartAs (one_natural self.now.code_length.bits field (left (S.Source.tape source.old))) (S.Source.tape source.old) result (S.Source.tape source.new) }
+        ensures law { CodeLaw (λ n. nat_le n sum_limit) (natural_code self.now.code_length.bits) (one_natural self.now.code_length.bits) }
+        ensures small { IfOk result (λ n. n ≤ sum_limit) }
+    {
+        let largest = self.code_length.largest();
+        // A loop, since how many pieces there are is known only once they are read.
+        let mut sum = 0u32;
+        let number = loop {
+            let piece = take_part(source, self.code_length.bits, field)?;
+            if sum + piece > SUM_LIMIT {
+                return Err(NumberFault::Range { position: field });
+            }
+            sum += piece;
+            if piece < largest {
+                break sum;
+            }
+        };
+        Ok(number)
+    }
 }

@@ -1,9 +1,9 @@
 -- Fields that calls read one after the other, from a source that goes on.
 use Rattle.std.proofs.Common.{◌≡◌, ℕ, suc, ◌+◌, ◌-◌, ◌<◌, ◌≤◌, Bool, List, [], ◌∷◌, ◌++◌, length, Ok, Err, Result, sym, refl, ap, ◌∙◌, append_assoc, append-nil, add-one, arith}
-use Rattle.bits.specs.Stores.{Tape, left, Parse, got, refused, ReadAs}
+use Rattle.bits.specs.Stores.{Tape, left, Parse, got, refused, ReadAs, mapped}
 use Rattle.bits.proofs.Steps.{read_err}
 use Rattle.lengths.specs.Coding.{PartAs}
-use Rattle.items.specs.Sequences.{carried, mapped, followed, in_turn}
+use Rattle.items.specs.Sequences.{carried, followed, in_turn}
 use Rattle.items.proofs.SequenceLaws.{Went, followed_is, read_went}
 
 -- a part by an equal parse
@@ -17,13 +17,13 @@ module _ {E F A : Type 0} (carry : E → F) (x : Parse E A) (s t : Tape) where
     where
       go : (y : Parse E A) → ReadAs y s (Ok a) t → ReadAs (carried carry y) s (Ok a) t
       go (got b rest) h = let e : ◌≡◌ {A = Result A E} (Ok a) (Ok b) = h.0 in let is : a ≡ b = cc in (ap Ok is, h.1, h.2, h.3)
-      go (refused f) h = let e : ◌≡◌ {A = Result A E} (Ok a) (Err f) = h.0 in let z : ◌≡◌ {A = ℕ} 0 1 = cc in absurd (omega arith)
+      go (refused f) h = let e : ◌≡◌ {A = Result A E} (Ok a) (Err f) = h.0 in cc
 
   pub carried_err : (f : E) → ReadAs x s (Err f) t → ReadAs (carried carry x) s (Err (carry f)) t
   carried_err f h = go x h
     where
       go : (y : Parse E A) → ReadAs y s (Err f) t → ReadAs (carried carry y) s (Err (carry f)) t
-      go (got b rest) h = let e : ◌≡◌ {A = Result A E} (Err f) (Ok b) = h.0 in let z : ◌≡◌ {A = ℕ} 0 1 = cc in absurd (omega arith)
+      go (got b rest) h = let e : ◌≡◌ {A = Result A E} (Err f) (Ok b) = h.0 in cc
       go (refused g) h = let e : ◌≡◌ {A = Result A E} (Err f) (Err g) = h.0 in let is : f ≡ g = cc in (ap (λ y. Err (carry y)) is, h.1)
 
 -- a first field that a call read or refused, and what follows it

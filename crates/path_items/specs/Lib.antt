@@ -1,4 +1,3 @@
 pub mod Paths
 pub mod CommandLaws
-pub mod Turns
 pub mod ValueLaws

@@ -7,7 +7,7 @@ use lengths::Defaults;
 use words::Words;
 
 /// What the commands of a path are coded under: the configuration, the default lengths, and the words of the available commands.
-#[derive(Clone, Copy)]
+#[derive(Clone, Copy, Debug, PartialEq, Eq)]
 pub struct AgreedConfiguration {
     pub configuration: PathConfiguration,
     pub defaults: Defaults,

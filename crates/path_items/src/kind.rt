@@ -1,22 +1,23 @@
-//! The kind: its values, and the commands.
-ghost use Rattle.std.specs.Prelude.{◌≡◌, ◌+◌, ◌≤◌, true, ◌++◌, length, if◌then◌else◌, nat_lt};
+//! The kind of item that the commands are.
+ghost use Rattle.std.specs.Prelude.{◌≡◌, if◌then◌else◌, nat_lt};
 ghost use Rattle.std.proofs.Common.{lit≤};
-ghost use Rattle.bits.specs.Stores.{left, Reads};
-ghost use Rattle.lengths.specs.Coding.{PartAs};
-ghost use Rattle.items.specs.declared.faults.ListName.TheVariants.{Commands as CommandList};
+ghost use Rattle.lengths.specs.Coding.{Takes};
 ghost use Rattle.items.specs.Sequences.{is_zero};
-ghost use Rattle.availability.specs.Available.{available, before};
-ghost use Rattle.path_items.specs.Paths.{length_for, mode_of, is_flag, value_lawful, value_code, one_value, values_lawful, one_numbered, one_command, path_commands};
+ghost use Rattle.items.specs.declared.faults.ListName.TheVariants.{Commands as CommandList};
+ghost use Rattle.availability.specs.Available.{before};
+ghost use Rattle.path_items.specs.Paths.{length_for, available_in, value_lawful, values_lawful, one_numbered, one_command, path_commands};
 ghost use Rattle.path_items.specs.CommandLaws.{command_back, command_exact};
 
 use crate::agreed::AgreedConfiguration;
+use crate::form::ValueForm;
 use availability::{count_before, is_available, number_of};
-use bits::{Sink, Source, append, or_back};
-use commands::{COMMANDS, Command, DONE, Entry, FlagPlaces, row};
+use bits::{Sink, Source, or_back};
+use commands::{COMMANDS, Command, DONE, Entry, row};
 use configurations::path::PathConfiguration;
-use integers::{append_integer, in_range, integer_length, read_integer};
+use integers::Integers;
 use items::ItemKind;
 use items::faults::{ListFault, ListName};
+use lengths::codes::Code;
 use lengths::fields::LengthField;
 use lengths::{CodeLength, Defaults, Mode};
 use words::Words;
@@ -32,70 +33,52 @@ impl AgreedConfiguration {
     pub fn new(configuration: PathConfiguration, defaults: Defaults) -> AgreedConfiguration
         ensures { (result.configuration ≡ configuration) × (result.defaults ≡ defaults) }
     {
-        let count = count_before(configuration.fields, COMMANDS);
-        let width = count.ilog2() as u8;
+        let Some(words) = Words::new(count_before(configuration.fields, COMMANDS)) else {
+            unreachable!()
+        };
         AgreedConfiguration {
             configuration,
             defaults,
-            words: Words { count, width },
+            words,
         }
     }
 
     /// The code length of a mode.
     fn length_for(&self, mode: Mode) -> CodeLength
-        ensures { result.bits ≡ length_for self.now.configuration.fields self.now.defaults mode }
+        ensures { result.bits ≡ length_for self.now mode }
     {
         let fields = self.configuration.fields;
         let sent = match mode {
             Mode::Absolute => fields.absolute,
             Mode::Relative => fields.relative,
         };
-        let default = self.defaults.of(mode);
-        match LengthField::new(sent) {
-            Some(field) => field.chosen(default),
-            None => default,
-        }
+        LengthField::of(sent).chosen(self.defaults.of(mode))
+    }
+
+    /// The integers of a mode.
+    pub(crate) fn integers(&self, mode: Mode) -> Integers
+        ensures { (result.mode ≡ mode) × (result.code_length.bits ≡ length_for self.now mode) }
+    {
+        let code_length = self.length_for(mode);
+        Integers { mode, code_length }
     }
 
     /// The word number of a command.
     fn word_number(&self, number: u8) -> u16
-        requires { number ≤ 25 }
-        ensures { result ≡ before (available self.now.configuration.fields) number }
+        ensures { result ≡ before (available_in self.now) number }
     {
         count_before(self.configuration.fields, number)
     }
 }
 
-/// Whether the value at an index is a flag.
-fn is_flag(places: FlagPlaces, index: usize) -> bool
-    ensures { result ≡ is_flag places index }
-{
-    match places {
-        FlagPlaces::Nowhere => false,
-        FlagPlaces::FourthAndFifth => index == 3 || index == 4,
-    }
-}
-
-/// The mode of a command's values.
-fn mode_of(mode: Option<Mode>) -> Mode
-    ensures { result ≡ mode_of mode }
-{
-    match mode {
-        Some(mode) => mode,
-        None => Mode::Absolute,
-    }
-}
-
 /// Whether the value at an index is lawful if it is in use, and otherwise 0.
 fn value_lawful(entry: Entry, index: usize, value: i32) -> bool
-    ensures { result ≡ (if nat_lt index «entry».1 then value_lawful «entry» index value else is_zero value) }
+    ensures { result ≡ (if nat_lt index «entry».value_count then value_lawful «entry» index value else is_zero value) }
 {
-    if index >= entry.1 as usize {
-        value == 0
-    } else if is_flag(entry.2, index) {
-        value == 0 || value == 1
+    if index < entry.value_count as usize {
+        ValueForm::new(entry, index).allows(value)
     } else {
-        in_range(value)
+        value == 0
     }
 }
 
@@ -103,64 +86,10 @@ fn value_lawful(entry: Entry, index: usize, value: i32) -> bool
 fn values_lawful(entry: Entry, values: [i32; 8]) -> bool
     ensures { result ≡ values_lawful «entry» values }
 {
-    for (index, value) in values.iter().enumerate() {
-        if !value_lawful(entry, index, *value) {
-            return false;
-        }
-    }
-    true
-}
-
-/// How many bits a lawful value has.
-fn value_length(agreed: &AgreedConfiguration, entry: Entry, index: usize, value: i32) -> usize
-    requires { value_lawful «entry» index value ≡ true }
-    ensures value { result ≡ length (value_code agreed.now.configuration.fields agreed.now.defaults «entry» index value) }
-    ensures bound { result ≤ 1100000 }
-{
-    if is_flag(entry.2, index) {
-        return 1;
-    }
-    let mode = mode_of(entry.0);
-    integer_length(mode, agreed.length_for(mode), value)
-}
-
-/// Puts a lawful value where room for it is known.
-fn append_value<S: Sink>(
-    sink: &mut S,
-    agreed: &AgreedConfiguration,
-    entry: Entry,
-    index: usize,
-    value: i32,
-)
-    requires { (value_lawful «entry» index value ≡ true) × (length (S.content sink.old).bits + length (value_code agreed.now.configuration.fields agreed.now.defaults «entry» index value) ≤ (S.content sink.old).capacity) }
-    ensures kept { S.kept sink.old sink.new }
-    ensures capacity { (S.content sink.new).capacity ≡ (S.content sink.old).capacity }
-    ensures bits { (S.content sink.new).bits ≡ (S.content sink.old).bits ++ value_code agreed.now.configuration.fields agreed.now.defaults «entry» index value }
-{
-    if is_flag(entry.2, index) {
-        append(sink, 1, value as u32);
-    } else {
-        let mode = mode_of(entry.0);
-        append_integer(sink, mode, agreed.length_for(mode), value);
-    }
-}
-
-/// Reads a value.
-fn read_value<S: Source>(
-    source: &mut S,
-    agreed: &AgreedConfiguration,
-    entry: Entry,
-    index: usize,
-) -> Result<i32, ListFault>
-    ensures { Reads (one_value agreed.now.configuration.fields agreed.now.defaults «entry» index) (S.tape source.old) result (S.tape source.new) }
-{
-    if is_flag(entry.2, index) {
-        let bit = source.take()?;
-        return Ok(i32::from(bit));
-    }
-    let mode = mode_of(entry.0);
-    let value = read_integer(source, mode, agreed.length_for(mode))?;
-    Ok(value)
+    values
+        .iter()
+        .enumerate()
+        .all(|(index, value)| value_lawful(entry, index, *value))
 }
 
 /// A command of the number. A refusal leaves the source further on.
@@ -169,17 +98,16 @@ fn take_numbered<S: Source>(
     agreed: &AgreedConfiguration,
     number: u8,
 ) -> Result<Option<Command>, ListFault>
-    requires { number ≤ 25 }
-    ensures { PartAs (one_numbered agreed.now.configuration.fields agreed.now.defaults number (S.tape source.old).position (left (S.tape source.old))) (S.tape source.old) result (S.tape source.new) }
+    ensures { Takes (one_numbered agreed.now number) (S.tape source.old) result (S.tape source.new) }
 {
     if number == DONE {
         return Ok(None);
     }
     let entry = row(number);
     let mut values = [0; 8];
-    for index in 0..entry.1 as usize {
-        let value = read_value(source, agreed, entry, index)?;
-        values[index] = value;
+    let used = &mut values[..entry.value_count as usize];
+    for (index, value) in used.iter_mut().enumerate() {
+        *value = ValueForm::new(entry, index).read(agreed, source)?;
     }
     Ok(Some(Command { number, values }))
 }
@@ -189,7 +117,7 @@ fn take_command<S: Source>(
     source: &mut S,
     agreed: &AgreedConfiguration,
 ) -> Result<Option<Command>, ListFault>
-    ensures { PartAs (one_command agreed.now.configuration.fields agreed.now.defaults (S.tape source.old).position (left (S.tape source.old))) (S.tape source.old) result (S.tape source.new) }
+    ensures { Takes (one_command agreed.now) (S.tape source.old) result (S.tape source.new) }
 {
     let word = agreed.words.read(source)?;
     let number = number_of(agreed.configuration.fields, word);
@@ -203,25 +131,19 @@ impl ItemKind for PathCommands {
 
     const LIMIT: usize = MOST_COMMANDS;
 
-    ghost limit = { 4096 };
+    ghost LIMIT = { 4096 };
 
     ghost few = { lit≤ tt };
 
-    ghost list = { CommandList };
+    const LIST: ListName = ListName::Commands;
 
-    ghost kind = { λ c. path_commands c.configuration.fields c.defaults };
+    ghost LIST = { CommandList };
 
-    ghost back = { λ c. command_back c.configuration.fields c.defaults c.configuration.lawful };
+    ghost kind = { path_commands };
 
-    ghost exact = { λ c. command_exact c.configuration.fields c.defaults c.configuration.lawful };
+    ghost back = { command_back };
 
-    fn most_items() -> usize {
-        Self::LIMIT
-    }
-
-    fn list_name() -> ListName {
-        ListName::Commands
-    }
+    ghost exact = { command_exact };
 
     fn lengths_lawful(_configuration: &AgreedConfiguration, _item: &Command) -> bool {
         true
@@ -237,11 +159,11 @@ impl ItemKind for PathCommands {
 
     fn length(configuration: &AgreedConfiguration, item: &Command) -> usize {
         let entry = row(item.number);
-        let values = item.values;
+        let used = &item.values[..entry.value_count as usize];
         let word = configuration.word_number(item.number);
         let mut total = configuration.words.length(word);
-        for index in 0..entry.1 as usize {
-            total += value_length(configuration, entry, index, values[index]);
+        for (index, value) in used.iter().enumerate() {
+            total += ValueForm::new(entry, index).length(configuration, *value);
         }
         total
     }
@@ -252,11 +174,11 @@ impl ItemKind for PathCommands {
 
     fn append<S: Sink>(configuration: &AgreedConfiguration, item: &Command, sink: &mut S) {
         let entry = row(item.number);
-        let values = item.values;
+        let used = &item.values[..entry.value_count as usize];
         let word = configuration.word_number(item.number);
         configuration.words.append_to(sink, word);
-        for index in 0..entry.1 as usize {
-            append_value(sink, configuration, entry, index, values[index]);
+        for (index, value) in used.iter().enumerate() {
+            ValueForm::new(entry, index).append(configuration, *value, sink);
         }
     }
 

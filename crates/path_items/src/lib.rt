@@ -2,4 +2,5 @@
 #![tactic(auto)]
 
 pub mod agreed;
+mod form;
 pub mod kind;

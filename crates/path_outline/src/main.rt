@@ -8,38 +8,36 @@ use outline::{path_data, transform_list};
 use path_items::agreed::AgreedConfiguration;
 use refusals::{few_places, long_length, many_commands, no_curves, unlawful_command};
 use std::io;
-use telling::{tell_answer, tell_attempt, tell_listed, tell_refusal};
+use telling::attempts::{tell_answer, tell_attempt, tell_lawful};
+use telling::example::FIELDS;
 
-mod example;
 mod outline;
 mod refusals;
-mod telling;
 
 /// Tells what is refused of lists, and of a configuration.
-fn tell_list_refusals(rt: &HostRuntime, defaults: &Defaults) -> io::Result<()> {
-    let configuration = match PathConfiguration::new(example::fields()) {
-        Ok(configuration) => configuration,
-        Err(fault) => return tell_refusal(rt, fault.number()),
-    };
-    let agreed = AgreedConfiguration::new(configuration, *defaults);
+fn tell_list_refusals(
+    rt: &impl Print,
+    agreed: &AgreedConfiguration,
+    defaults: &Defaults,
+) -> io::Result<()> {
     let curve = Command::smooth_quadratic_to(Mode::Absolute, (1, 2));
-    tell_listed(
+    tell_lawful(
         rt,
         "A curve in the example's path",
-        unlawful_command(&agreed, curve),
+        unlawful_command(agreed, curve),
     )?;
     let largest = Command::move_to(Mode::Absolute, (1_048_575, 0));
-    tell_listed(rt, "M 1048575 0 there", unlawful_command(&agreed, largest))?;
+    tell_lawful(rt, "M 1048575 0 there", unlawful_command(agreed, largest))?;
     let larger = Command::move_to(Mode::Absolute, (1_048_576, 0));
-    tell_listed(rt, "M 1048576 0 there", unlawful_command(&agreed, larger))?;
-    tell_listed(rt, "A path of 4096 commands", many_commands(&agreed, 4096))?;
-    tell_listed(rt, "A path of 4097 commands", many_commands(&agreed, 4097))?;
-    tell_listed(rt, "A skew with a length of 15", long_length(defaults))?;
+    tell_lawful(rt, "M 1048576 0 there", unlawful_command(agreed, larger))?;
+    tell_lawful(rt, "A path of 4096 commands", many_commands(agreed, 4096))?;
+    tell_lawful(rt, "A path of 4097 commands", many_commands(agreed, 4097))?;
+    tell_lawful(rt, "A skew with a length of 15", long_length(defaults))?;
     tell_attempt(
         rt,
         "Two commands into a list of one place",
         "position",
-        few_places(&agreed),
+        few_places(agreed),
     )?;
     tell_answer(
         rt,
@@ -49,16 +47,21 @@ fn tell_list_refusals(rt: &HostRuntime, defaults: &Defaults) -> io::Result<()> {
 }
 
 /// Path data, transforms, and what is refused of them.
-fn run(rt: &HostRuntime, defaults: &Defaults) -> io::Result<()> {
-    path_data(rt, defaults)?;
+fn run(rt: &impl Print, defaults: &Defaults) -> io::Result<()> {
+    let configuration = match PathConfiguration::new(FIELDS) {
+        Ok(configuration) => configuration,
+        Err(fault) => return println!(rt; "    refused with {fault}"),
+    };
+    let agreed = AgreedConfiguration::new(configuration, *defaults);
+    path_data(rt, &agreed, defaults)?;
     transform_list(rt, defaults)?;
     println!(rt; "What is refused alters nothing:")?;
-    tell_list_refusals(rt, defaults)
+    tell_list_refusals(rt, &agreed, defaults)
 }
 
 fn main(rt: HostRuntime) -> io::Result<()> {
     match Defaults::new(7, 4) {
         Ok(defaults) => run(&rt, &defaults),
-        Err(fault) => tell_refusal(&rt, fault.number()),
+        Err(fault) => println!(rt; "    refused with {fault}"),
     }
 }

@@ -4,10 +4,9 @@ use Rattle.std.proofs.Common.{sym, ap, ◌∙◌, arith, take-append-drop, lengt
 use Rattle.std.proofs.lemmas.Bool.{eqb-true, eqb-false, lt-ltb, and_from}
 use Rattle.bits.specs.Codes.{fixed, number}
 use Rattle.bits.specs.Stores.{Parse, got, refused, one_field}
-use Rattle.bits.proofs.Codes.{fixed_number}
+use Rattle.bits.proofs.Codes.{number_take, number_whole, fixed_number}
 use Rattle.bits.proofs.Steps.{field_ok}
 use Rattle.lengths.specs.declared.faults.NumberFault.TheVariants.{Store, Range}
-use Rattle.lengths.proofs.Parts.{piece_lt, piece_whole}
 use Rattle.items.specs.declared.faults.ListFault.{ListFault}
 use Rattle.items.specs.declared.faults.ListFault.TheVariants.{Number}
 use Rattle.items.specs.Kinds.{Lawful, spelled, ReadExact}
@@ -20,11 +19,11 @@ use Rattle.sample_items.specs.Levels.{levels, level_of}
 taken : (at v : ℕ) (bits rest : List Bool) → one_field 3 at bits ≡ got v rest → (v < 8) × (bits ≡ fixed 3 v ++ rest)
 taken at v bits rest e =
     let f = field_ok 3 at bits v rest e in
-    let w = piece_whole 3 bits (omega arith) in
-    let is : v ≡ number (take 3 bits) = f.1 ∙ w.0 in
+    let w = number_whole 3 bits (omega arith) in
+    let is : v ≡ number (take 3 bits) = f.1 ∙ w in
     let len = length-take-le 3 bits f.0 in
     let front : take 3 bits ≡ fixed 3 v = sym (fixed_number (take 3 bits)) ∙ ap (λ n. fixed n (number (take 3 bits))) len ∙ ap (fixed 3) (sym is) in
-    (omega (arith, piece_lt 3 bits), sym (take-append-drop 3 bits) ∙ ap (λ xs. xs ++ drop 3 bits) front ∙ ap (λ xs. fixed 3 v ++ xs) (sym f.2))
+    (omega (arith, number_take 3 bits), sym (take-append-drop 3 bits) ∙ ap (λ xs. xs ++ drop 3 bits) front ∙ ap (λ xs. fixed 3 v ++ xs) (sym f.2))
 
 pub level_exact : (c : Highest) → ReadExact (levels c)
 level_exact c at x bits rest e =
@@ -46,4 +45,4 @@ level_exact c at x bits rest e =
         let ne = eqb-false v 7 p in
         let low : v < 7 = omega arith in
         rw (sym n) (and_from (nat_lt v 7) (nat_le v c.value) (lt-ltb v 7 low) q, is ∙ ap (λ xs. fixed 3 v ++ xs) m)
-    go v more small is false false p q d = let z : ◌≡◌ {A = ℕ} 0 1 = cc in absurd (omega arith)
+    go v more small is false false p q d = cc

@@ -34,25 +34,19 @@ impl ItemKind for Levels {
 
     const LIMIT: usize = 5;
 
-    ghost limit = { 5 };
+    ghost LIMIT = { 5 };
 
     ghost few = { lit≤ tt };
 
-    ghost list = { Other 1 };
+    const LIST: ListName = ListName::Other(1);
+
+    ghost LIST = { Other 1 };
 
     ghost kind = { levels };
 
     ghost back = { Prim.search rules };
 
     ghost exact = { level_exact };
-
-    fn most_items() -> usize {
-        Self::LIMIT
-    }
-
-    fn list_name() -> ListName {
-        ListName::Other(1)
-    }
 
     fn lengths_lawful(_configuration: &Highest, _item: &Level) -> bool {
         true

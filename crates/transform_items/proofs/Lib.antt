@@ -1,2 +1,3 @@
 pub mod Taking
 pub mod Writing
+pub mod Questions

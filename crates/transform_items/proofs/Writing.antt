@@ -1,55 +1,40 @@
 -- The parts of a transform's code, in the order in which they are written.
-use Rattle.std.proofs.Common.{◌≡◌, ℕ, zero, suc, ◌+◌, ◌<◌, ◌≤◌, Bool, true, false, cond, ◌&&◌, ltb, List, [], ◌∷◌, ◌++◌, length, get_or, drop, ℤ, sym, refl, ap, ◌∙◌, append_assoc, add-one, arith, length-append}
+use Rattle.std.proofs.Common.{◌≡◌, ℕ, zero, suc, ◌+◌, ◌-◌, ◌<◌, ◌≤◌, Bool, true, false, cond, ◌&&◌, ltb, List, [], ◌∷◌, ◌++◌, length, get_or, take, drop, sym, refl, ap, ◌∙◌, add-one, arith, length-take, length-drop}
 use mir.Val.{bool_byte}
-use Rattle.std.proofs.lemmas.List.{append-nil, at_drop_more, at_drop_all, get_or-take}
+use Rattle.std.proofs.lemmas.List.{at_drop_more, at_drop_all, get_or-take}
+use Rattle.std.proofs.lemmas.Grind.{get_or_after_one}
 use Rattle.std.proofs.lemmas.Bool.{and_parts}
 use Rattle.bits.specs.Codes.{fixed}
 use Rattle.bits.specs.Stores.{Content}
-use Rattle.bits.proofs.Codes.{length_fixed}
-use Rattle.lengths.specs.declared.Mode.TheVariants.{Absolute}
-use Rattle.lengths.specs.Fields.{chosen, field_code}
-use Rattle.integers.specs.Integers.{integer_code}
-use Rattle.words.specs.Words.{word}
+use Rattle.bits.proofs.Steps.{Due}
 use Rattle.items.specs.Kinds.{all_yes}
 use Rattle.items.specs.Sequences.{in_order}
 use Rattle.items.proofs.SequenceLaws.{Each}
 use Rattle.transforms.specs.declared.steps.PlainArgument.{PlainArgument}
 use Rattle.transforms.specs.declared.steps.Transform.{Transform}
-use Rattle.transforms.specs.Records.{unused, marked, following, six_of, other_six}
-use Rattle.transform_items.specs.Transforms.{argument_code, used_by, arguments_of, lengths_lawful, values_lawful, transform_asked, mark_code, transform_code}
+use Rattle.transforms.specs.Records.{unused, marked, following, own_of, six_of, other_six}
+use Rattle.transform_items.specs.Transforms.{argument_code, used_by, arguments_of, lengths_lawful, values_lawful, transform_asked, mark_code}
 use Rattle.transform_items.specs.ArgumentLaws.{Sound}
-use Rattle.transform_items.specs.RecordLaws.{placed_back, each_sound}
+use Rattle.transform_items.specs.RecordLaws.{following_few, length_filled, placed_back, each_sound}
 
 -- the mark is a field of one bit, or of none
-pub mark_code_lem : (kind mark : ℕ) → fixed (bool_byte (marked kind)) mark ≡ mark_code kind mark
-mark_code_lem kind mark = go (marked kind)
+pub mark_bits : (kind mark : ℕ) {width : ℕ} {b : Bool} → width ≡ bool_byte b → b ≡ marked kind → fixed width mark ≡ mark_code kind mark
+mark_bits kind mark w e = ap (λ n. fixed n mark) (w ∙ ap bool_byte e) ∙ go (marked kind)
   where
     go : (b : Bool) → fixed (bool_byte b) mark ≡ cond b (fixed 1 mark) []
     go true = refl
     go false = refl
 
-pub mark_length : (kind mark : ℕ) {width : ℕ} {b : Bool} → width ≡ bool_byte b → b ≡ marked kind → length (mark_code kind mark) ≡ width
-mark_length kind mark w e = ap length (sym (mark_code_lem kind mark)) ∙ length_fixed (bool_byte (marked kind)) mark ∙ ap bool_byte (sym e) ∙ sym w
-
--- both parts of an argument, put one after the other
-pub argument_put : (default n cl : ℕ) (v : ℤ) (a : PlainArgument) (held : List Bool) {one two : List Bool} → n ≡ a.length → cl ≡ chosen n default → v ≡ a.value
-    → one ≡ held ++ field_code n → two ≡ one ++ integer_code Absolute cl v → two ≡ held ++ argument_code default a
-argument_put default n cl v a held l c e p q =
-    rw (q, p, c, l, e) (append_assoc held (field_code a.length) (integer_code Absolute (chosen a.length default) a.value))
-
 -- what is written of a transform after its argument i
 abbrev pub rest_from : ℕ → Transform → ℕ → List Bool
 rest_from default r i = in_order (λ j. argument_code default) (i + 1) (drop (i + 1) (arguments_of r))
 
--- how long its parts are
-pub length_parts : (default : ℕ) (r : Transform)
-    → length (transform_code default r) ≡ length (word 7 r.kind) + (length (argument_code default (get_or (six_of r) 0 unused)) + (bool_byte (marked r.kind) + length (rest_from default r 0)))
-length_parts default r =
-    let one = argument_code default (get_or (six_of r) 0 unused) in
-    let two = mark_code r.kind r.mark in
-    let three = rest_from default r 0 in
-    let m = mark_length r.kind r.mark refl refl in
-    omega (arith, length-append (word 7 r.kind) (one ++ (two ++ three)), length-append one (two ++ three), length-append two three)
+-- what is written of it after its first argument, and after its word
+abbrev pub from_mark : ℕ → Transform → List Bool
+from_mark default r = mark_code r.kind r.mark ++ rest_from default r 0
+
+abbrev pub from_first : ℕ → Transform → List Bool
+from_first default r = argument_code default (get_or (six_of r) 0 unused) ++ from_mark default r
 
 -- an argument that a lawful transform has
 each_at : (vs : List PlainArgument) (i n : ℕ) → Each Sound n vs → i < length vs → Sound 0 (get_or vs i unused)
@@ -83,40 +68,17 @@ module _ (r : Transform) (lawful : all_yes (transform_asked r) ≡ true) where
   pub rest_none : (default i : ℕ) → following r.kind r.mark ≤ i → rest_from default r i ≡ []
   rest_none default i l = at_drop_all (in_order (λ j. argument_code default) (i + 1)) (arguments_of r) (i + 1) (omega (arith, all_there))
 
--- a sink that has taken a part of a code: the rest is still to be put
-pub record Owes (s t : Content) (rest code : List Bool) : Type 0 where
-  pub room : t.capacity ≡ s.capacity
-  pub bits : t.bits ++ rest ≡ s.bits ++ code
+-- the slice of the arguments after the first one
+module _ (r : Transform) {n : ℕ} {six : List PlainArgument} (is : six ≡ six_of r) (few : n ≡ following r.kind r.mark) where
+  pub length_after : length (take (n + 1 - 1) (drop 1 six)) ≡ following r.kind r.mark
+  length_after =
+      rw (is, few) (omega (arith, length-take (following r.kind r.mark + 1 - 1) (drop 1 (six_of r)), length-drop 1 (six_of r), length_filled (own_of r.kind r), following_few r.kind r.mark))
 
-pub owes_all : (s : Content) (code : List Bool) → Owes s s code code
-owes_all s code = record { room = refl; bits = refl }
+  pub after_at : (i : ℕ) → i < length (take (n + 1 - 1) (drop 1 six)) → get_or (take (n + 1 - 1) (drop 1 six)) i unused ≡ get_or (six_of r) (i + 1) unused
+  after_at i l =
+      get_or-take (n + 1 - 1) (drop 1 six) i unused (omega (arith, length_after)) ∙ ap (λ xs. get_or (drop 1 xs) i unused) is ∙ get_or_after_one (six_of r) i unused
+      ∙ ap (λ j. get_or (six_of r) j unused) (omega arith)
 
-pub owes_less : (s t u : Content) (more rest code : List Bool) → Owes s t (more ++ rest) code → u.capacity ≡ t.capacity → u.bits ≡ t.bits ++ more → Owes s u rest code
-owes_less s t u more rest code o p q = record { room = p ∙ o.room; bits = ap (λ xs. xs ++ rest) q ∙ append_assoc t.bits more rest ∙ o.bits }
-
-pub owes_none : (s t : Content) (code : List Bool) → Owes s t [] code → t.bits ≡ s.bits ++ code
-owes_none s t code o = sym (append-nil t.bits) ∙ o.bits
-
--- what is owed of the rest is owed of the whole
-pub owes_on : (s t u : Content) (more rest code : List Bool) → Owes s t rest code → Owes t u more rest → Owes s u more code
-owes_on s t u more rest code o p = record { room = p.room ∙ o.room; bits = p.bits ∙ o.bits }
-
--- where there was room for the whole, there is room for the next part
-pub owes_room : (s t : Content) (more rest code : List Bool) → Owes s t (more ++ rest) code → length s.bits + length code ≤ s.capacity → length t.bits + length more ≤ t.capacity
-owes_room s t more rest code o h =
-    omega (arith, o.room, ap length o.bits, length-append t.bits (more ++ rest), length-append more rest, length-append s.bits code)
-
--- the first parts of a transform were put: its word, its first argument and its mark
-module _ (default : ℕ) (r : Transform) {count : ℕ} {six : List PlainArgument} (seven : count ≡ 7) (is : six ≡ six_of r) (s t : Content) (r₁ : t.capacity ≡ s.capacity) (b₁ : t.bits ≡ s.bits ++ word count r.kind) where
-  pub word_written : Owes s t (argument_code default (get_or (six_of r) 0 unused) ++ (mark_code r.kind r.mark ++ rest_from default r 0)) (transform_code default r)
-  word_written =
-      owes_less s s t (word 7 r.kind) _ (transform_code default r) (owes_all s (transform_code default r)) r₁ (b₁ ∙ ap (λ n. s.bits ++ word n r.kind) seven)
-
-  module _ (u : Content) (r₂ : u.capacity ≡ t.capacity) (b₂ : u.bits ≡ t.bits ++ argument_code default (get_or six 0 unused)) where
-    pub first_written : Owes s u (mark_code r.kind r.mark ++ rest_from default r 0) (transform_code default r)
-    first_written =
-        owes_less s t u (argument_code default (get_or (six_of r) 0 unused)) _ (transform_code default r) word_written r₂ (b₂ ∙ ap (λ xs. t.bits ++ argument_code default (get_or xs 0 unused)) is)
-
-    pub after_mark : {width : ℕ} {b : Bool} → width ≡ bool_byte b → b ≡ marked r.kind → (v : Content) → v.capacity ≡ u.capacity → v.bits ≡ u.bits ++ fixed width r.mark → Owes s v (rest_from default r 0) (transform_code default r)
-    after_mark w e v r₃ b₃ =
-        owes_less s u v (mark_code r.kind r.mark) _ (transform_code default r) first_written r₃ (b₃ ∙ ap (λ n. u.bits ++ fixed n r.mark) (w ∙ ap bool_byte e) ∙ ap (λ xs. u.bits ++ xs) (mark_code_lem r.kind r.mark))
+-- what is due of the rest is due of the whole
+pub due_on : (s t u : Content) {all rest more : List Bool} → Due s all t rest → Due t rest u more → Due s all u more
+due_on s t u p q = record { is = q.is ∙ p.is }

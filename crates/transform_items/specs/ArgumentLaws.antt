@@ -3,7 +3,7 @@ use Rattle.std.specs.Prelude.{◌≡◌, ℕ, zero, suc, ◌+◌, ◌-◌, ◌*�
 use Rattle.std.proofs.Common.{append_assoc, ⊎_elim, sym, ap, ◌∙◌, arith, length-append}
 use Rattle.std.proofs.lemmas.Int.{ints}
 use Rattle.std.proofs.lemmas.Bool.{cases_lt, lt-ltb, le-ltb, ltb-true}
-use Rattle.bits.specs.Stores.{Parse, got}
+use Rattle.bits.specs.Stores.{Parse, got, mapped}
 use Rattle.bits.proofs.Codes.{length_fixed}
 use Rattle.lengths.specs.declared.faults.NumberFault.{NumberFault}
 use Rattle.lengths.specs.declared.Mode.TheVariants.{Absolute}
@@ -16,8 +16,9 @@ use Rattle.integers.specs.Integers.{in_range, absolute_code, integer_code, one_i
 use Rattle.integers.proofs.Forms.{length_escaped}
 use Rattle.integers.proofs.IntegerLaws.{integer_back, integer_exact}
 use Rattle.items.specs.declared.faults.ListFault.TheVariants.{Number}
-use Rattle.items.specs.Sequences.{carried, mapped, followed, onward}
-use Rattle.items.proofs.SequenceLaws.{mapped_got, carried_got, followed_got, followed_back}
+use Rattle.items.specs.Sequences.{carried, followed, onward}
+use Rattle.bits.proofs.Steps.{mapped_got}
+use Rattle.items.proofs.SequenceLaws.{carried_got, followed_got, followed_back}
 use Rattle.transforms.specs.declared.steps.PlainArgument.{PlainArgument}
 use Rattle.transforms.specs.Records.{plain}
 use Rattle.transform_items.specs.Transforms.{argument_code, one_argument}

@@ -1,11 +1,10 @@
 -- A lawful record is the one that is made from its arguments, and every record that is made from lawful arguments is lawful.
-use Rattle.std.specs.Prelude.{◌≡◌, ℕ, zero, suc, ◌+◌, ◌-◌, ◌<◌, ◌≤◌, Bool, true, false, cond, ◌&&◌, ltb, List, [], ◌∷◌, ◌++◌, map, length, get_or, take, drop, replicate, ℤ, pos, negsuc, ◌==◌, nat_le, nat_lt, slice_index_or, refl}
+use Rattle.std.specs.Prelude.{◌≡◌, ℕ, zero, suc, ◌+◌, ◌-◌, ◌<◌, ◌≤◌, Bool, true, cond, ◌&&◌, ltb, List, [], ◌∷◌, ◌++◌, map, length, get_or, take, drop, replicate, ℤ, pos, negsuc, ◌==◌, nat_le, nat_lt, slice_index_or, refl}
 use Rattle.std.proofs.Common.{⊎_elim, sym, ap, ◌∙◌, add-one, arith, length-append, length-take}
-use Rattle.std.specs.List.{range_with_len}
+use Rattle.std.specs.List.{list_all, enumerate_from, range_with_len}
 use Rattle.std.proofs.lemmas.List.FromFn.{length-map-range_with_len, get_or-map-range_with_len}
-use Rattle.std.proofs.lemmas.List.{at_drop_more, ext_get_or, get_or-take, get_or_past, take_at, length-replicate}
-use Rattle.std.proofs.lemmas.Bool.{and_parts, and_from, and_left, lt-leb, cases_lt, eqb-true, le-leb, leb-true, lt-ltb}
-use Rattle.integers.specs.Integers.{in_range}
+use Rattle.std.proofs.lemmas.List.{ext_get_or, get_or-take, get_or_past, take_at, length-replicate}
+use Rattle.std.proofs.lemmas.Bool.{and_parts, and_from, cases_lt, eqb-true, le-leb, leb-true, lt-ltb}
 use Rattle.items.specs.Kinds.{all_yes}
 use Rattle.items.specs.Sequences.{only_used, filled_up, is_zero}
 use Rattle.items.proofs.SequenceLaws.{Each, used_of, used_from, filled_up_lem}
@@ -17,7 +16,7 @@ use Rattle.transform_items.specs.ArgumentLaws.{Sound}
 
 zero_only : (v : ℤ) → is_zero v ≡ true → v ≡ pos 0
 zero_only (pos n) e = ap pos (eqb-true n 0 e)
-zero_only (negsuc n) e = let z : ◌≡◌ {A = ℕ} 0 1 = cc in absurd (omega arith)
+zero_only (negsuc n) e = cc
 
 -- one argument alone counts as not used
 unused_only : (a : PlainArgument) → is_unused a ≡ true → a ≡ unused
@@ -25,30 +24,12 @@ unused_only a e =
     let p = and_parts (a.length == 0) (is_zero a.value) e in
     ap (λ n. plain n a.value) (eqb-true a.length 0 p.0) ∙ ap (plain 0) (zero_only a.value p.1)
 
--- one argument after the other is asked for its length
-module _ (xs : List PlainArgument) (i : ℕ) (h : i < length xs) where
-  pub lengths_stop : 14 < (get_or xs i unused).length → false ≡ lengths_lawful (drop i xs)
-  lengths_stop l = sym (at_drop_more lengths_lawful xs i unused h ∙ and_left (nat_le (get_or xs i unused).length 14) (lengths_lawful (drop (i + 1) xs)) (lt-leb (get_or xs i unused).length 14 l))
-
-  pub lengths_more : (get_or xs i unused).length ≤ 14 → lengths_lawful (drop (i + 1) xs) ≡ lengths_lawful (drop i xs)
-  lengths_more l = sym (at_drop_more lengths_lawful xs i unused h ∙ ap (λ b. b && lengths_lawful (drop (i + 1) xs)) (le-leb (get_or xs i unused).length 14 l))
-
--- and for its value
-module _ (n i : ℕ) (xs : List PlainArgument) (h : i < length xs) where
-  abbrev asked : Bool
-  asked = cond (nat_lt i n) (in_range (get_or xs i unused).value) (is_unused (slice_index_or xs i unused))
-
-  abbrev more : List PlainArgument → Bool
-  more = only_used argument_lawful is_unused n (i + 1)
-
-  next_used : only_used argument_lawful is_unused n i (drop i xs) ≡ asked && more (drop (i + 1) xs)
-  next_used = at_drop_more (only_used argument_lawful is_unused n i) xs i unused h ∙ ap (λ j. asked && only_used argument_lawful is_unused n j (drop (i + 1) xs)) (sym (add-one i))
-
-  pub used_stop : asked ≡ false → false ≡ only_used argument_lawful is_unused n i (drop i xs)
-  used_stop e = sym (next_used ∙ and_left asked (more (drop (i + 1) xs)) e)
-
-  pub used_more : asked ≡ true → more (drop (i + 1) xs) ≡ only_used argument_lawful is_unused n i (drop i xs)
-  used_more e = sym (next_used ∙ ap (λ b. b && more (drop (i + 1) xs)) e)
+-- of the values of a record, asked one after the other by their numbers, the first n are lawful, and the others are not used
+pub used_by_number : {A : Type 0} (lawful : ℕ → A → Bool) (idle : A → Bool) (n i : ℕ) (vs : List A)
+    → list_all (λ p. cond (nat_lt p.0 n) (lawful p.0 p.1) (idle p.1)) (enumerate_from i vs) ≡ only_used lawful idle n i vs
+used_by_number lawful idle n i [] = refl
+used_by_number lawful idle n i (a ∷ vs) =
+    ap (λ b. cond (nat_lt i n) (lawful i a) (idle a) && b) (used_by_number lawful idle n (i + 1) vs ∙ ap (λ j. only_used lawful idle n j vs) (add-one i))
 
 -- no type has more than six arguments
 pub following_few : (kind mark : ℕ) → following kind mark ≤ 5

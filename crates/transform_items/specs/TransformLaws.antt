@@ -3,7 +3,7 @@ use Rattle.std.specs.Prelude.{◌≡◌, ℕ, zero, suc, ◌<◌, ◌≤◌, Boo
 use Rattle.std.proofs.Common.{append_assoc, sym, ap, subst, ◌∙◌, arith}
 use Rattle.std.proofs.lemmas.Bool.{and_parts, eqb-true, eqb-false, ne_eqb, ltb-true}
 use Rattle.bits.specs.Codes.{fixed}
-use Rattle.bits.specs.Stores.{Parse, got, one_field}
+use Rattle.bits.specs.Stores.{Parse, got, one_field, mapped}
 use Rattle.bits.specs.declared.StoreFault.{StoreFault}
 use Rattle.bits.proofs.Steps.{field_ok, field_got}
 use Rattle.lengths.specs.declared.faults.NumberFault.TheVariants.{Store}
@@ -13,8 +13,9 @@ use Rattle.words.proofs.WordLaws.{word_back, word_exact}
 use Rattle.items.specs.declared.faults.ListFault.{ListFault}
 use Rattle.items.specs.declared.faults.ListFault.TheVariants.{Number}
 use Rattle.items.specs.Kinds.{Lawful, spelled, ReadBack, ReadExact}
-use Rattle.items.specs.Sequences.{onward, carried, mapped, followed, in_turn, in_order}
-use Rattle.items.proofs.SequenceLaws.{Each, mapped_got, carried_got, followed_got, followed_back, turn_back, turn_exact}
+use Rattle.items.specs.Sequences.{onward, carried, followed, in_turn, in_order}
+use Rattle.bits.proofs.Steps.{mapped_got}
+use Rattle.items.proofs.SequenceLaws.{Each, carried_got, followed_got, followed_back, turn_back, turn_exact}
 use Rattle.transforms.specs.declared.steps.PlainArgument.{PlainArgument}
 use Rattle.transforms.specs.declared.steps.Transform.{Transform}
 use Rattle.transforms.specs.Records.{unused, marked, following, six_of, other_six, placed}

@@ -1,7 +1,8 @@
 -- Transforms as a kind of item: a word of seven, an argument, for the first three types the mark, and the arguments that follow.
-use Rattle.std.specs.Prelude.{ℕ, suc, Bool, true, cond, ◌&&◌, List, [], ◌∷◌, ◌++◌, take, drop, Some, None, Option, ◌==◌, nat_le, nat_lt, slice_index_or}
+use Rattle.std.specs.Prelude.{ℕ, suc, Bool, cond, ◌&&◌, List, [], ◌∷◌, ◌++◌, take, drop, Some, None, Option, ◌==◌, nat_le, nat_lt, slice_index_or}
+use Rattle.std.specs.List.{list_all}
 use Rattle.bits.specs.Codes.{fixed}
-use Rattle.bits.specs.Stores.{Parse, got}
+use Rattle.bits.specs.Stores.{Parse, got, mapped}
 use Rattle.lengths.specs.declared.Defaults.{Defaults}
 use Rattle.lengths.specs.declared.Mode.TheVariants.{Absolute}
 use Rattle.lengths.specs.Fields.{chosen, field_code, one_length_field}
@@ -10,7 +11,7 @@ use Rattle.words.specs.Words.{word, one_word}
 use Rattle.items.specs.declared.faults.ListFault.{ListFault}
 use Rattle.items.specs.declared.faults.ListFault.TheVariants.{Number}
 use Rattle.items.specs.Kinds.{Asked, Kind}
-use Rattle.items.specs.Sequences.{carried, one_number, mapped, followed, in_turn, in_order, only_used}
+use Rattle.items.specs.Sequences.{carried, one_number, followed, in_turn, in_order, only_used}
 use Rattle.transforms.specs.declared.steps.PlainArgument.{PlainArgument}
 use Rattle.transforms.specs.declared.steps.Transform.{Transform}
 use Rattle.transforms.specs.Records.{plain, unused, is_unused, marked, following, six_of, other_six, placed}
@@ -36,8 +37,7 @@ length_lawful a = nat_le a.length 14
 
 -- each argument's length is lawful (13)
 abbrev pub lengths_lawful : List PlainArgument → Bool
-lengths_lawful [] = true
-lengths_lawful (a ∷ rest) = length_lawful a && lengths_lawful rest
+lengths_lawful = list_all length_lawful
 
 -- the value of an argument is in range
 abbrev pub argument_lawful : ℕ → PlainArgument → Bool

@@ -1,25 +1,29 @@
 //! Transforms as a kind of item.
 #![tactic(auto)]
 
-ghost use Rattle.std.specs.Prelude.{◌≡◌, ◌+◌, ◌≤◌, true, ◌++◌, length};
+ghost use Rattle.std.specs.Prelude.{◌≡◌, ◌≤◌, true, length};
 ghost use Rattle.std.proofs.Common.{lit≤};
-ghost use Rattle.bits.specs.Stores.{left, Reads};
-ghost use Rattle.lengths.specs.Coding.{PartAs};
+ghost use Rattle.bits.specs.Stores.{HasRoom, appended, left, Reads};
+ghost use Rattle.lengths.specs.Coding.{Takes};
+ghost use Rattle.lengths.specs.Fields.{sent_by, chosen};
+ghost use Rattle.lengths.specs.declared.Mode.TheVariants.{Absolute};
 ghost use Rattle.items.specs.declared.faults.ListName.TheVariants.{Transforms as TransformList};
-ghost use Rattle.items.specs.Kinds.{lawful};
 ghost use Rattle.items.specs.Sequences.{only_used};
 ghost use Rattle.transforms.specs.Records.{is_unused, marked as marked_of};
 ghost use Rattle.transform_items.specs.Transforms.{argument_code, one_argument, argument_lawful, lengths_lawful, mark_lawful, one_mark, one_of_type, one_transform, transforms};
+ghost use Rattle.transform_items.specs.ArgumentLaws.{Sound};
 ghost use Rattle.transform_items.specs.TransformLaws.{transform_back, transform_exact};
 
 use bits::{Sink, Source, append, or_back};
-use integers::{append_integer, in_range, integer_length, read_integer};
+use integers::{Integers, in_range};
 use items::ItemKind;
 use items::faults::{ListFault, ListName};
-use lengths::fields::{LengthField, field_of};
+use lengths::codes::Code;
+use lengths::fields::{LengthField, LengthFields};
 use lengths::{CodeLength, Defaults, Mode};
 use transforms::records::{END, UNUSED};
 use transforms::steps::{PlainArgument, Transform};
+use transforms::types::TransformType;
 use words::Words;
 
 /// The most transforms of a list.
@@ -39,7 +43,10 @@ fn words() -> Words
 fn marked(kind: u8) -> bool
     ensures { result ≡ marked_of kind }
 {
-    kind < 3
+    matches!(
+        TransformType::try_from(kind),
+        Ok(TransformType::Translate | TransformType::Rotate | TransformType::Scale)
+    )
 }
 
 /// Whether the mark is lawful for the type.
@@ -57,63 +64,63 @@ fn mark_lawful(item: &Transform) -> bool
 fn all_lengths_lawful(arguments: &[PlainArgument]) -> bool
     ensures { result ≡ lengths_lawful arguments.now }
 {
-    for argument in arguments {
-        if argument.length > 14 {
-            return false;
-        }
-    }
-    true
+    arguments.iter().all(|argument| argument.length <= 14)
 }
 
 /// Whether the first `used` arguments are in range, and the others are not used.
 fn only_used(arguments: &[PlainArgument], used: usize) -> bool
     ensures { result ≡ only_used argument_lawful is_unused used 0 arguments.now }
 {
-    for (index, argument) in arguments.iter().enumerate() {
-        let lawful = if index < used {
+    arguments.iter().enumerate().all(|(index, argument)| {
+        if index < used {
             in_range(argument.value)
         } else {
             argument.is_unused()
-        };
-        if !lawful {
-            return false;
         }
-    }
-    true
+    })
 }
+
+/// How the value of an argument is coded: in absolute mode, at the length that is sent or else the default.
+fn value_code(default: CodeLength, sent: LengthField) -> Integers
+    ensures { (result.mode ≡ Absolute) × (result.code_length.bits ≡ chosen (sent_by sent) default.bits) }
+{
+    let mode = Mode::Absolute;
+    let code_length = sent.chosen(default);
+    Integers { mode, code_length }
+}
+
+// No `Code` for an argument: its length and its value are told each at its own place, and a code is told at one.
 
 /// How many bits an argument has.
 fn argument_length(default: CodeLength, argument: PlainArgument) -> usize
-    requires { (argument.length ≤ 14) × (argument_lawful 0 argument ≡ true) }
+    requires { Sound 0 argument }
     ensures value { result ≡ length (argument_code default.bits argument) }
     ensures bound { result ≤ 1100000 }
 {
-    let field = field_of(argument.length);
-    field.length() + integer_length(Mode::Absolute, field.chosen(default), argument.value)
+    let sent = LengthField::of(argument.length);
+    LengthFields.length(sent) + value_code(default, sent).length(argument.value)
 }
 
 /// Puts an argument where room for it is known.
 fn append_argument<S: Sink>(sink: &mut S, default: CodeLength, argument: PlainArgument)
-    requires { (argument.length ≤ 14) × (length (S.content sink.old).bits + length (argument_code default.bits argument) ≤ (S.content sink.old).capacity) }
+    requires few { argument.length ≤ 14 }
+    requires room { HasRoom (S.content sink.old) (argument_code default.bits argument) }
     ensures kept { S.kept sink.old sink.new }
-    ensures capacity { (S.content sink.new).capacity ≡ (S.content sink.old).capacity }
-    ensures bits { (S.content sink.new).bits ≡ (S.content sink.old).bits ++ argument_code default.bits argument }
+    ensures content { S.content sink.new ≡ appended (S.content sink.old) (argument_code default.bits argument) }
 {
-    let field = field_of(argument.length);
-    field.append_to(sink);
-    append_integer(sink, Mode::Absolute, field.chosen(default), argument.value);
+    let sent = LengthField::of(argument.length);
+    LengthFields.append_to(sink, sent);
+    value_code(default, sent).append_to(sink, argument.value);
 }
 
 /// An argument. A refusal leaves the source further on.
 fn take_argument<S: Source>(source: &mut S, default: CodeLength) -> Result<PlainArgument, ListFault>
-    ensures { PartAs (one_argument default.bits (S.tape source.old).position (left (S.tape source.old))) (S.tape source.old) result (S.tape source.new) }
+    ensures { Takes (one_argument default.bits) (S.tape source.old) result (S.tape source.new) }
 {
-    let field = LengthField::read(source)?;
-    let value = read_integer(source, Mode::Absolute, field.chosen(default))?;
-    Ok(PlainArgument {
-        length: field.bits(),
-        value,
-    })
+    let sent = LengthFields.read(source)?;
+    let value = value_code(default, sent).read(source)?;
+    let length = sent.bits();
+    Ok(PlainArgument { length, value })
 }
 
 /// The mark of a type that has one; otherwise it is 0.
@@ -133,13 +140,13 @@ fn take_of_type<S: Source>(
     default: CodeLength,
     kind: u8,
 ) -> Result<Option<Transform>, ListFault>
-    ensures { PartAs (one_of_type default.bits kind (S.tape source.old).position (left (S.tape source.old))) (S.tape source.old) result (S.tape source.new) }
+    ensures { Takes (one_of_type default.bits kind) (S.tape source.old) result (S.tape source.new) }
 {
     let mut arguments = [UNUSED; 6];
     arguments[0] = take_argument(source, default)?;
     let mark = read_mark(source, kind)?;
-    for index in 0..Transform::following(kind, mark) {
-        arguments[index + 1] = take_argument(source, default)?;
+    for argument in &mut arguments[1..=Transform::following(kind, mark)] {
+        *argument = take_argument(source, default)?;
     }
     Ok(Some(Transform::placed(kind, mark, arguments)))
 }
@@ -149,7 +156,7 @@ fn take_transform<S: Source>(
     source: &mut S,
     default: CodeLength,
 ) -> Result<Option<Transform>, ListFault>
-    ensures { PartAs (one_transform default.bits (S.tape source.old).position (left (S.tape source.old))) (S.tape source.old) result (S.tape source.new) }
+    ensures { Takes (one_transform default.bits) (S.tape source.old) result (S.tape source.new) }
 {
     let kind = words().read(source)? as u8;
     if kind == END {
@@ -165,11 +172,13 @@ impl ItemKind for Transforms {
 
     const LIMIT: usize = MOST_TRANSFORMS;
 
-    ghost limit = { 64 };
+    ghost LIMIT = { 64 };
 
     ghost few = { lit≤ tt };
 
-    ghost list = { TransformList };
+    const LIST: ListName = ListName::Transforms;
+
+    ghost LIST = { TransformList };
 
     ghost kind = { transforms };
 
@@ -177,20 +186,12 @@ impl ItemKind for Transforms {
 
     ghost exact = { transform_exact };
 
-    fn most_items() -> usize {
-        Self::LIMIT
-    }
-
-    fn list_name() -> ListName {
-        ListName::Transforms
-    }
-
     fn lengths_lawful(_configuration: &Defaults, item: &Transform) -> bool {
         all_lengths_lawful(&item.six()) && all_lengths_lawful(&item.other_six())
     }
 
     fn is_available(_configuration: &Defaults, item: &Transform) -> bool {
-        item.kind < END
+        TransformType::try_from(item.kind).is_ok()
     }
 
     fn values_lawful(_configuration: &Defaults, item: &Transform) -> bool {
@@ -201,14 +202,15 @@ impl ItemKind for Transforms {
         only_used(&item.six(), used) && only_used(&item.other_six(), 0)
     }
 
+    #[tactic(auto, using(crate::proofs::Writing::rest_none, crate::proofs::Writing::length_after))]
     fn length(configuration: &Defaults, item: &Transform) -> usize {
         let default = configuration.absolute;
         let arguments = item.six();
         let mut total = words().length(item.kind as u16);
         total += argument_length(default, arguments[0]);
         total += usize::from(marked(item.kind));
-        for index in 0..Transform::following(item.kind, item.mark) {
-            total += argument_length(default, arguments[index + 1]);
+        for argument in &arguments[1..=Transform::following(item.kind, item.mark)] {
+            total += argument_length(default, *argument);
         }
         total
     }
@@ -224,8 +226,8 @@ impl ItemKind for Transforms {
         append_argument(sink, default, arguments[0]);
         // Where the type has no mark, this field has no bits.
         append(sink, u8::from(marked(item.kind)), item.mark as u32);
-        for index in 0..Transform::following(item.kind, item.mark) {
-            append_argument(sink, default, arguments[index + 1]);
+        for argument in &arguments[1..=Transform::following(item.kind, item.mark)] {
+            append_argument(sink, default, *argument);
         }
     }
 

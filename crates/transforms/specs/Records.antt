@@ -8,7 +8,7 @@ use Rattle.transforms.specs.declared.steps.AngleSteps.{AngleSteps}
 use Rattle.transforms.specs.declared.steps.PlainArgument.{PlainArgument}
 use Rattle.transforms.specs.declared.steps.Transform.{Transform}
 
--- an argument without its unit, and with it
+-- an argument as it is coded
 abbrev pub plain : ℕ → ℤ → PlainArgument
 plain length value = record { length = length; value = value }
 
@@ -19,23 +19,26 @@ unused = plain 0 (pos 0)
 abbrev pub is_unused : PlainArgument → Bool
 is_unused a = a.length == 0 && is_zero a.value
 
-abbrev pub from_spatial : Argument SpatialSteps → PlainArgument
-from_spatial a = plain a.length a.value.steps
+-- a unit: so many of its steps, and how many steps they are
+pub record StepUnit (Steps : Type 0) : Type 0 where
+  pub steps_of : ℤ → Steps
+  pub count_of : Steps → ℤ
 
-abbrev pub from_scale : Argument ScaleSteps → PlainArgument
-from_scale a = plain a.length a.value.steps
+abbrev pub spatial : StepUnit SpatialSteps
+spatial = record { steps_of = λ count. record { steps = count }; count_of = λ it. it.steps }
 
-abbrev pub from_angle : Argument AngleSteps → PlainArgument
-from_angle a = plain a.length a.value.steps
+abbrev pub scale : StepUnit ScaleSteps
+scale = record { steps_of = λ count. record { steps = count }; count_of = λ it. it.steps }
 
-abbrev pub to_spatial : PlainArgument → Argument SpatialSteps
-to_spatial p = record { length = p.length; value = record { steps = p.value } }
+abbrev pub angular : StepUnit AngleSteps
+angular = record { steps_of = λ count. record { steps = count }; count_of = λ it. it.steps }
 
-abbrev pub to_scale : PlainArgument → Argument ScaleSteps
-to_scale p = record { length = p.length; value = record { steps = p.value } }
+-- an argument without its unit, and with it
+abbrev pub without_unit : {Steps : Type 0} → StepUnit Steps → Argument Steps → PlainArgument
+without_unit unit a = plain a.length (unit.count_of a.value)
 
-abbrev pub to_angle : PlainArgument → Argument AngleSteps
-to_angle p = record { length = p.length; value = record { steps = p.value } }
+abbrev pub with_unit : {Steps : Type 0} → StepUnit Steps → PlainArgument → Argument Steps
+with_unit unit p = record { length = p.length; value = unit.steps_of p.value }
 
 -- the first three types have a mark that says whether the optional arguments follow
 abbrev pub marked : ℕ → Bool
@@ -54,21 +57,21 @@ following (suc (suc (suc (suc kind)))) mark = 0
 
 -- the arguments that a type may have, in the order in which they are coded: tx, ty; the angle, cx, cy; sx, sy; a to f; the angle
 abbrev pub own_of : ℕ → Transform → List PlainArgument
-own_of zero r = from_spatial r.x ∷ from_spatial r.y ∷ []
-own_of (suc zero) r = from_angle r.angle ∷ from_spatial r.x ∷ from_spatial r.y ∷ []
-own_of (suc (suc zero)) r = from_scale r.a ∷ from_scale r.b ∷ []
+own_of zero r = without_unit spatial r.x ∷ without_unit spatial r.y ∷ []
+own_of (suc zero) r = without_unit angular r.angle ∷ without_unit spatial r.x ∷ without_unit spatial r.y ∷ []
+own_of (suc (suc zero)) r = without_unit scale r.a ∷ without_unit scale r.b ∷ []
 own_of (suc (suc (suc zero))) r =
-    from_scale r.a ∷ from_scale r.b ∷ from_scale r.c ∷ from_scale r.d ∷ from_spatial r.x ∷ from_spatial r.y ∷ []
-own_of (suc (suc (suc (suc kind)))) r = from_angle r.angle ∷ []
+    without_unit scale r.a ∷ without_unit scale r.b ∷ without_unit scale r.c ∷ without_unit scale r.d ∷ without_unit spatial r.x ∷ without_unit spatial r.y ∷ []
+own_of (suc (suc (suc (suc kind)))) r = without_unit angular r.angle ∷ []
 
 -- the others
 abbrev pub others_of : ℕ → Transform → List PlainArgument
-others_of zero r = from_angle r.angle ∷ from_scale r.a ∷ from_scale r.b ∷ from_scale r.c ∷ from_scale r.d ∷ []
-others_of (suc zero) r = from_scale r.a ∷ from_scale r.b ∷ from_scale r.c ∷ from_scale r.d ∷ []
-others_of (suc (suc zero)) r = from_angle r.angle ∷ from_scale r.c ∷ from_scale r.d ∷ from_spatial r.x ∷ from_spatial r.y ∷ []
-others_of (suc (suc (suc zero))) r = from_angle r.angle ∷ []
+others_of zero r = without_unit angular r.angle ∷ without_unit scale r.a ∷ without_unit scale r.b ∷ without_unit scale r.c ∷ without_unit scale r.d ∷ []
+others_of (suc zero) r = without_unit scale r.a ∷ without_unit scale r.b ∷ without_unit scale r.c ∷ without_unit scale r.d ∷ []
+others_of (suc (suc zero)) r = without_unit angular r.angle ∷ without_unit scale r.c ∷ without_unit scale r.d ∷ without_unit spatial r.x ∷ without_unit spatial r.y ∷ []
+others_of (suc (suc (suc zero))) r = without_unit angular r.angle ∷ []
 others_of (suc (suc (suc (suc kind)))) r =
-    from_scale r.a ∷ from_scale r.b ∷ from_scale r.c ∷ from_scale r.d ∷ from_spatial r.x ∷ from_spatial r.y ∷ []
+    without_unit scale r.a ∷ without_unit scale r.b ∷ without_unit scale r.c ∷ without_unit scale r.d ∷ without_unit spatial r.x ∷ without_unit spatial r.y ∷ []
 
 -- six arguments: those that the type may have, and unused ones after them
 abbrev pub six_of : Transform → List PlainArgument
@@ -81,7 +84,7 @@ other_six r = filled_up unused 6 (others_of r.kind r)
 -- a record by its arguments in the order angle, a, b, c, d, x, y
 abbrev pub built : ℕ → ℕ → PlainArgument → PlainArgument → PlainArgument → PlainArgument → PlainArgument → PlainArgument → PlainArgument → Transform
 built kind mark angle a b c d x y =
-    record { kind = kind; mark = mark; angle = to_angle angle; a = to_scale a; b = to_scale b; c = to_scale c; d = to_scale d; x = to_spatial x; y = to_spatial y }
+    record { kind = kind; mark = mark; angle = with_unit angular angle; a = with_unit scale a; b = with_unit scale b; c = with_unit scale c; d = with_unit scale d; x = with_unit spatial x; y = with_unit spatial y }
 
 -- the record of a type with its arguments in the order in which they are coded
 abbrev pub placed : ℕ → ℕ → List PlainArgument → Transform

@@ -1,22 +1,13 @@
 //! Transforms by name, and their arguments in the order in which they are coded.
-ghost use Rattle.std.specs.Prelude.{◌≡◌, ℕ, ◌≤◌, [], ◌∷◌};
-ghost use Rattle.transforms.specs.Records.{plain, is_unused, from_spatial, from_scale, from_angle, to_spatial, to_scale, to_angle, following as following_of, six_of, other_six, placed as placed_of, mark_of, if_any};
+ghost use Rattle.std.specs.Prelude.{◌≡◌, ℕ, ◌≤◌, length, [], ◌∷◌};
+ghost use Rattle.items.specs.Sequences.{filled_up as filled_up_of};
+ghost use Rattle.transforms.specs.Types.{number_of};
+ghost use Rattle.transforms.specs.Records.{spatial, scale, angular, without_unit, unused, is_unused, following as following_of, six_of, other_six, built, placed as placed_of, mark_of, if_any};
 
 use crate::steps::{AngleSteps, Argument, PlainArgument, ScaleSteps, SpatialSteps, Transform};
+use crate::types::TransformType;
 
-/// The types of transforms, and the end word after them.
-pub const TRANSLATE: u8 = 0;
-
-pub const ROTATE: u8 = 1;
-
-pub const SCALE: u8 = 2;
-
-pub const MATRIX: u8 = 3;
-
-pub const SKEW_X: u8 = 4;
-
-pub const SKEW_Y: u8 = 5;
-
+/// The number of the end word, after those of the types.
 pub const END: u8 = 6;
 
 pub const UNUSED: PlainArgument = PlainArgument {
@@ -24,156 +15,96 @@ pub const UNUSED: PlainArgument = PlainArgument {
     value: 0,
 };
 
-impl SpatialSteps {
-    /// So many spatial steps, as an argument with the default length.
-    pub fn argument(steps: i32) -> Argument<SpatialSteps>
-        ensures { result ≡ to_spatial (plain 0 steps) }
-    {
-        let value = SpatialSteps { steps };
-        Argument { length: 0, value }
-    }
-}
-
-impl ScaleSteps {
-    /// So many scale steps, as an argument with the default length.
-    pub fn argument(steps: i32) -> Argument<ScaleSteps>
-        ensures { result ≡ to_scale (plain 0 steps) }
-    {
-        let value = ScaleSteps { steps };
-        Argument { length: 0, value }
-    }
-}
-
-impl AngleSteps {
-    /// So many angle steps, as an argument with the default length.
-    pub fn argument(steps: i32) -> Argument<AngleSteps>
-        ensures { result ≡ to_angle (plain 0 steps) }
-    {
-        let value = AngleSteps { steps };
-        Argument { length: 0, value }
-    }
-}
-
 impl PlainArgument {
-    fn spatial(self) -> Argument<SpatialSteps>
-        ensures { result ≡ to_spatial self }
-    {
-        let value = SpatialSteps { steps: self.value };
-        Argument {
-            length: self.length,
-            value,
-        }
-    }
-
-    fn scale(self) -> Argument<ScaleSteps>
-        ensures { result ≡ to_scale self }
-    {
-        let value = ScaleSteps { steps: self.value };
-        Argument {
-            length: self.length,
-            value,
-        }
-    }
-
-    fn angle(self) -> Argument<AngleSteps>
-        ensures { result ≡ to_angle self }
-    {
-        let value = AngleSteps { steps: self.value };
-        Argument {
-            length: self.length,
-            value,
-        }
-    }
-
-    fn of_spatial(argument: Argument<SpatialSteps>) -> PlainArgument
-        ensures { result ≡ from_spatial argument }
-    {
-        PlainArgument {
-            length: argument.length,
-            value: argument.value.steps,
-        }
-    }
-
-    fn of_scale(argument: Argument<ScaleSteps>) -> PlainArgument
-        ensures { result ≡ from_scale argument }
-    {
-        PlainArgument {
-            length: argument.length,
-            value: argument.value.steps,
-        }
-    }
-
-    fn of_angle(argument: Argument<AngleSteps>) -> PlainArgument
-        ensures { result ≡ from_angle argument }
-    {
-        PlainArgument {
-            length: argument.length,
-            value: argument.value.steps,
-        }
-    }
-
     /// Whether it is 0, with no length sent.
     pub fn is_unused(self) -> bool
         ensures { result ≡ is_unused self }
     {
-        self.length == 0 && self.value == 0
+        self == UNUSED
     }
 }
 
+/// These arguments, and unused ones after them.
+fn filled_up(arguments: &[PlainArgument]) -> [PlainArgument; 6]
+    requires { length arguments.now ≤ 6 }
+    ensures { result ≡ filled_up_of unused 6 arguments.now }
+{
+    let mut six = [UNUSED; 6];
+    six[..arguments.len()].copy_from_slice(arguments);
+    six
+}
+
 impl Transform {
+    /// A record none of whose arguments is used.
+    fn unused(kind: u8, mark: u8) -> Transform
+        ensures { result ≡ built kind mark unused unused unused unused unused unused unused }
+    {
+        Transform {
+            kind,
+            mark,
+            angle: UNUSED.into(),
+            a: UNUSED.into(),
+            b: UNUSED.into(),
+            c: UNUSED.into(),
+            d: UNUSED.into(),
+            x: UNUSED.into(),
+            y: UNUSED.into(),
+        }
+    }
+
     /// The record of a type with its arguments in the order in which they are coded.
     pub fn placed(kind: u8, mark: u8, arguments: [PlainArgument; 6]) -> Transform
         ensures { result ≡ placed_of kind mark arguments }
     {
-        let mut made = Transform {
-            kind,
-            mark,
-            angle: UNUSED.angle(),
-            a: UNUSED.scale(),
-            b: UNUSED.scale(),
-            c: UNUSED.scale(),
-            d: UNUSED.scale(),
-            x: UNUSED.spatial(),
-            y: UNUSED.spatial(),
-        };
-        match kind {
-            TRANSLATE => {
-                made.x = arguments[0].spatial();
-                made.y = arguments[1].spatial();
-            }
-            ROTATE => {
-                made.angle = arguments[0].angle();
-                made.x = arguments[1].spatial();
-                made.y = arguments[2].spatial();
-            }
-            SCALE => {
-                made.a = arguments[0].scale();
-                made.b = arguments[1].scale();
-            }
-            MATRIX => {
-                made.a = arguments[0].scale();
-                made.b = arguments[1].scale();
-                made.c = arguments[2].scale();
-                made.d = arguments[3].scale();
-                made.x = arguments[4].spatial();
-                made.y = arguments[5].spatial();
-            }
-            _ => made.angle = arguments[0].angle(),
+        let unused = Transform::unused(kind, mark);
+        match TransformType::try_from(kind) {
+            Ok(TransformType::Translate) => Transform {
+                x: arguments[0].into(),
+                y: arguments[1].into(),
+                ..unused
+            },
+            Ok(TransformType::Rotate) => Transform {
+                angle: arguments[0].into(),
+                x: arguments[1].into(),
+                y: arguments[2].into(),
+                ..unused
+            },
+            Ok(TransformType::Scale) => Transform {
+                a: arguments[0].into(),
+                b: arguments[1].into(),
+                ..unused
+            },
+            Ok(TransformType::Matrix) => Transform {
+                a: arguments[0].into(),
+                b: arguments[1].into(),
+                c: arguments[2].into(),
+                d: arguments[3].into(),
+                x: arguments[4].into(),
+                y: arguments[5].into(),
+                ..unused
+            },
+            Ok(TransformType::SkewX | TransformType::SkewY) | Err(_) => Transform {
+                angle: arguments[0].into(),
+                ..unused
+            },
         }
-        made
+    }
+
+    /// The record of a type with these arguments, and with unused ones after them.
+    fn of_type(kind: TransformType, mark: u8, arguments: &[PlainArgument]) -> Transform
+        requires { length arguments.now ≤ 6 }
+        ensures { result ≡ placed_of (number_of kind) mark (filled_up_of unused 6 arguments.now) }
+    {
+        Transform::placed(kind.into(), mark, filled_up(arguments))
     }
 
     /// translate(tx) or translate(tx, ty).
     pub fn translate(tx: Argument<SpatialSteps>, ty: Option<Argument<SpatialSteps>>) -> Transform
-        ensures { result ≡ placed_of 0 (mark_of ty) (from_spatial tx ∷ if_any (λ y. from_spatial y ∷ []) ty) }
+        ensures { result ≡ placed_of 0 (mark_of ty) (without_unit spatial tx ∷ if_any (λ y. without_unit spatial y ∷ []) ty) }
     {
-        let x = PlainArgument::of_spatial(tx);
         match ty {
-            None => Transform::placed(TRANSLATE, 0, [x, UNUSED, UNUSED, UNUSED, UNUSED, UNUSED]),
-            Some(ty) => {
-                let y = PlainArgument::of_spatial(ty);
-                Transform::placed(TRANSLATE, 1, [x, y, UNUSED, UNUSED, UNUSED, UNUSED])
-            }
+            None => Transform::of_type(TransformType::Translate, 0, &[tx.into()]),
+            Some(ty) => Transform::of_type(TransformType::Translate, 1, &[tx.into(), ty.into()]),
         }
     }
 
@@ -182,30 +113,24 @@ impl Transform {
         angle: Argument<AngleSteps>,
         centre: Option<(Argument<SpatialSteps>, Argument<SpatialSteps>)>,
     ) -> Transform
-        ensures { result ≡ placed_of 1 (mark_of centre) (from_angle angle ∷ if_any (λ c. from_spatial c.0 ∷ from_spatial c.1 ∷ []) centre) }
+        ensures { result ≡ placed_of 1 (mark_of centre) (without_unit angular angle ∷ if_any (λ c. without_unit spatial c.0 ∷ without_unit spatial c.1 ∷ []) centre) }
     {
-        let angle = PlainArgument::of_angle(angle);
         match centre {
-            None => Transform::placed(ROTATE, 0, [angle, UNUSED, UNUSED, UNUSED, UNUSED, UNUSED]),
+            None => Transform::of_type(TransformType::Rotate, 0, &[angle.into()]),
             Some((cx, cy)) => {
-                let x = PlainArgument::of_spatial(cx);
-                let y = PlainArgument::of_spatial(cy);
-                Transform::placed(ROTATE, 1, [angle, x, y, UNUSED, UNUSED, UNUSED])
+                let arguments = [angle.into(), cx.into(), cy.into()];
+                Transform::of_type(TransformType::Rotate, 1, &arguments)
             }
         }
     }
 
     /// scale(sx) or scale(sx, sy).
     pub fn scale(sx: Argument<ScaleSteps>, sy: Option<Argument<ScaleSteps>>) -> Transform
-        ensures { result ≡ placed_of 2 (mark_of sy) (from_scale sx ∷ if_any (λ y. from_scale y ∷ []) sy) }
+        ensures { result ≡ placed_of 2 (mark_of sy) (without_unit scale sx ∷ if_any (λ y. without_unit scale y ∷ []) sy) }
     {
-        let x = PlainArgument::of_scale(sx);
         match sy {
-            None => Transform::placed(SCALE, 0, [x, UNUSED, UNUSED, UNUSED, UNUSED, UNUSED]),
-            Some(sy) => {
-                let y = PlainArgument::of_scale(sy);
-                Transform::placed(SCALE, 1, [x, y, UNUSED, UNUSED, UNUSED, UNUSED])
-            }
+            None => Transform::of_type(TransformType::Scale, 0, &[sx.into()]),
+            Some(sy) => Transform::of_type(TransformType::Scale, 1, &[sx.into(), sy.into()]),
         }
     }
 
@@ -219,50 +144,49 @@ impl Transform {
         ),
         shift: (Argument<SpatialSteps>, Argument<SpatialSteps>),
     ) -> Transform
-        ensures { result ≡ placed_of 3 0 (from_scale scales.0 ∷ from_scale scales.1 ∷ from_scale scales.2 ∷ from_scale scales.3 ∷ from_spatial shift.0 ∷ from_spatial shift.1 ∷ []) }
+        ensures { result ≡ placed_of 3 0 (without_unit scale scales.0 ∷ without_unit scale scales.1 ∷ without_unit scale scales.2 ∷ without_unit scale scales.3 ∷ without_unit spatial shift.0 ∷ without_unit spatial shift.1 ∷ []) }
     {
-        let a = PlainArgument::of_scale(scales.0);
-        let b = PlainArgument::of_scale(scales.1);
-        let c = PlainArgument::of_scale(scales.2);
-        let d = PlainArgument::of_scale(scales.3);
-        let e = PlainArgument::of_spatial(shift.0);
-        let f = PlainArgument::of_spatial(shift.1);
-        Transform::placed(MATRIX, 0, [a, b, c, d, e, f])
+        let (a, b, c, d) = scales;
+        let (e, f) = shift;
+        let arguments = [a.into(), b.into(), c.into(), d.into(), e.into(), f.into()];
+        Transform::of_type(TransformType::Matrix, 0, &arguments)
     }
 
     /// skewX(angle).
     pub fn skew_x(angle: Argument<AngleSteps>) -> Transform
-        ensures { result ≡ placed_of 4 0 (from_angle angle ∷ []) }
+        ensures { result ≡ placed_of 4 0 (without_unit angular angle ∷ []) }
     {
-        let angle = PlainArgument::of_angle(angle);
-        Transform::placed(SKEW_X, 0, [angle, UNUSED, UNUSED, UNUSED, UNUSED, UNUSED])
+        Transform::of_type(TransformType::SkewX, 0, &[angle.into()])
     }
 
     /// skewY(angle).
     pub fn skew_y(angle: Argument<AngleSteps>) -> Transform
-        ensures { result ≡ placed_of 5 0 (from_angle angle ∷ []) }
+        ensures { result ≡ placed_of 5 0 (without_unit angular angle ∷ []) }
     {
-        let angle = PlainArgument::of_angle(angle);
-        Transform::placed(SKEW_Y, 0, [angle, UNUSED, UNUSED, UNUSED, UNUSED, UNUSED])
+        Transform::of_type(TransformType::SkewY, 0, &[angle.into()])
+    }
+
+    /// The angle, a to d, x and y, without their units.
+    fn arguments(&self) -> [PlainArgument; 7]
+        ensures { result ≡ without_unit angular self.now.angle ∷ without_unit scale self.now.a ∷ without_unit scale self.now.b ∷ without_unit scale self.now.c ∷ without_unit scale self.now.d ∷ without_unit spatial self.now.x ∷ without_unit spatial self.now.y ∷ [] }
+    {
+        let angle = self.angle.into();
+        let (a, b, c, d) = (self.a.into(), self.b.into(), self.c.into(), self.d.into());
+        let (x, y) = (self.x.into(), self.y.into());
+        [angle, a, b, c, d, x, y]
     }
 
     /// Six arguments: those that its type may have, in the order in which they are coded, and unused ones after them.
     pub fn six(&self) -> [PlainArgument; 6]
         ensures { result ≡ six_of self.now }
     {
-        let angle = PlainArgument::of_angle(self.angle);
-        let a = PlainArgument::of_scale(self.a);
-        let b = PlainArgument::of_scale(self.b);
-        let c = PlainArgument::of_scale(self.c);
-        let d = PlainArgument::of_scale(self.d);
-        let x = PlainArgument::of_spatial(self.x);
-        let y = PlainArgument::of_spatial(self.y);
-        match self.kind {
-            TRANSLATE => [x, y, UNUSED, UNUSED, UNUSED, UNUSED],
-            ROTATE => [angle, x, y, UNUSED, UNUSED, UNUSED],
-            SCALE => [a, b, UNUSED, UNUSED, UNUSED, UNUSED],
-            MATRIX => [a, b, c, d, x, y],
-            _ => [angle, UNUSED, UNUSED, UNUSED, UNUSED, UNUSED],
+        let [angle, a, b, c, d, x, y] = self.arguments();
+        match TransformType::try_from(self.kind) {
+            Ok(TransformType::Translate) => filled_up(&[x, y]),
+            Ok(TransformType::Rotate) => filled_up(&[angle, x, y]),
+            Ok(TransformType::Scale) => filled_up(&[a, b]),
+            Ok(TransformType::Matrix) => [a, b, c, d, x, y],
+            Ok(TransformType::SkewX | TransformType::SkewY) | Err(_) => filled_up(&[angle]),
         }
     }
 
@@ -270,19 +194,13 @@ impl Transform {
     pub fn other_six(&self) -> [PlainArgument; 6]
         ensures { result ≡ other_six self.now }
     {
-        let angle = PlainArgument::of_angle(self.angle);
-        let a = PlainArgument::of_scale(self.a);
-        let b = PlainArgument::of_scale(self.b);
-        let c = PlainArgument::of_scale(self.c);
-        let d = PlainArgument::of_scale(self.d);
-        let x = PlainArgument::of_spatial(self.x);
-        let y = PlainArgument::of_spatial(self.y);
-        match self.kind {
-            TRANSLATE => [angle, a, b, c, d, UNUSED],
-            ROTATE => [a, b, c, d, UNUSED, UNUSED],
-            SCALE => [angle, c, d, x, y, UNUSED],
-            MATRIX => [angle, UNUSED, UNUSED, UNUSED, UNUSED, UNUSED],
-            _ => [a, b, c, d, x, y],
+        let [angle, a, b, c, d, x, y] = self.arguments();
+        match TransformType::try_from(self.kind) {
+            Ok(TransformType::Translate) => filled_up(&[angle, a, b, c, d]),
+            Ok(TransformType::Rotate) => filled_up(&[a, b, c, d]),
+            Ok(TransformType::Scale) => filled_up(&[angle, c, d, x, y]),
+            Ok(TransformType::Matrix) => filled_up(&[angle]),
+            Ok(TransformType::SkewX | TransformType::SkewY) | Err(_) => [a, b, c, d, x, y],
         }
     }
 
@@ -291,10 +209,10 @@ impl Transform {
         ensures value { result ≡ following_of kind mark }
         ensures bound { result ≤ 5 }
     {
-        match kind {
-            MATRIX => 5,
-            ROTATE if mark > 0 => 2,
-            TRANSLATE | SCALE if mark > 0 => 1,
+        match TransformType::try_from(kind) {
+            Ok(TransformType::Matrix) => 5,
+            Ok(TransformType::Rotate) if mark > 0 => 2,
+            Ok(TransformType::Translate | TransformType::Scale) if mark > 0 => 1,
             _ => 0,
         }
     }

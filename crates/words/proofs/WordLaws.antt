@@ -1,14 +1,14 @@
 -- Every word is read back, and only words are read.
-use Rattle.std.proofs.Common.{◌≡◌, ℕ, zero, suc, ◌+◌, ◌-◌, ◌*◌, ◌^◌, ◌<◌, ◌≤◌, Bool, true, false, cond, ltb, leb, List, [], ◌∷◌, ◌++◌, length, take, drop, sym, refl, ap, ◌∙◌, ⊎_elim, pow-suc, add-one, arith, length-append, length-drop, take-append-drop, length-take-le, take_at, drop_at, pow_mono}
+use Rattle.std.proofs.Common.{◌≡◌, ℕ, nat_lt, zero, suc, ◌+◌, ◌-◌, ◌*◌, ◌^◌, ◌<◌, ◌≤◌, Bool, true, false, cond, ltb, leb, List, [], ◌∷◌, ◌++◌, length, take, drop, sym, refl, ap, ◌∙◌, ⊎_elim, pow-suc, add-one, arith, length-append, length-drop, take-append-drop, length-take-le, take_at, drop_at, pow_mono}
 use Rattle.std.proofs.lemmas.Bool.{cases_lt, le-leb, lt-leb, le-ltb, lt-ltb, ltb-true, ltb-false, cond_both}
 use Rattle.bits.specs.Codes.{fixed, number}
 use Rattle.bits.specs.Stores.{Parse, got, refused}
 use Rattle.bits.specs.declared.StoreFault.TheVariants.{End}
-use Rattle.bits.proofs.Codes.{length_fixed, number_field, fixed_number}
+use Rattle.bits.proofs.Codes.{number_take, length_fixed, number_field, fixed_number}
 use Rattle.bits.proofs.Steps.{next_bit}
 use Rattle.lengths.specs.declared.faults.NumberFault.{NumberFault}
 use Rattle.lengths.specs.declared.faults.NumberFault.TheVariants.{Store}
-use Rattle.lengths.proofs.Parts.{piece_lt}
+use Rattle.lengths.specs.Coding.{CodeLaw}
 use Rattle.words.specs.Words.{log_up_to, floor_log, short_words, word, one_word}
 
 -- 2 ^ k is the largest power up to d
@@ -113,7 +113,7 @@ module _ (k u d at i : ℕ) (low : 2 ^ k ≤ d) (all : u + d ≡ 2 ^ suc k) wher
           let len : suc k ≤ length (xs ++ rest) = omega (arith, length-append xs rest) in
           let m : number (take (suc k) (xs ++ rest)) ≡ w = ap number (take_at xs rest (suc k) l) ∙ number_field (suc k) w (omega arith) in
           let more = (one_more k (xs ++ rest) len).0 in
-          let one = piece_lt 1 (drop k (xs ++ rest)) in
+          let one = number_take 1 (drop k (xs ++ rest)) in
           rw (le-ltb i u le)
           (way_last k u at (xs ++ rest) (number (take k (xs ++ rest))) refl len (omega arith)
           ∙ ap (λ ys. got (number (take (suc k) (xs ++ rest)) - u) ys) (drop_at xs rest (suc k) l) ∙ ap (λ n. got n rest) (omega arith))
@@ -130,20 +130,20 @@ module _ (k u d at i : ℕ) (low : 2 ^ k ≤ d) (all : u + d ≡ 2 ^ suc k) wher
       go : (a b c : Bool) → ltb (length bits) k ≡ a → ltb v u ≡ b → ltb (length bits) (suc k) ≡ c
           → ◌≡◌ {A = Parse NumberFault ℕ} (cond a (refused (Store (End at))) (cond b (got v (drop k bits)) (cond c (refused (Store (End at))) (got (w - u) (drop (suc k) bits))))) (got i rest)
           → (i < d) × (bits ≡ word_by k u i ++ rest)
-      go true b c la lb lc e = let z : ◌≡◌ {A = ℕ} 0 1 = cc in absurd (omega arith)
+      go true b c la lb lc e = cc
       go false true c la lb lc e =
           let is : v ≡ i = cc in
           let end : drop k bits ≡ rest = cc in
           let lt = ltb-true v u lb in
           (omega (arith, pow-suc 2 k), rw (lt-ltb i u (omega arith)) (front k bits (ltb-false (length bits) k la) ∙ ap (λ n. fixed k n ++ drop k bits) is ∙ ap (λ ys. fixed k i ++ ys) end))
-      go false false true la lb lc e = let z : ◌≡◌ {A = ℕ} 0 1 = cc in absurd (omega arith)
+      go false false true la lb lc e = cc
       go false false false la lb lc e =
           let is : w - u ≡ i = cc in
           let end : drop (suc k) bits ≡ rest = cc in
           let le = ltb-false v u lb in
           let len = ltb-false (length bits) (suc k) lc in
           let more = (one_more k bits len).0 in
-          let lt = piece_lt (suc k) bits in
+          let lt = number_take (suc k) bits in
           let sum : w ≡ i + u = omega arith in
           (omega arith, rw (le-ltb i u (omega arith)) (front (suc k) bits len ∙ ap (λ n. fixed (suc k) n ++ drop (suc k) bits) sum ∙ ap (λ ys. fixed (suc k) (i + u) ++ ys) end))
 
@@ -192,3 +192,11 @@ length_word d i =
     (λ (lt : i < short_words d). let l = length_short d (floor_log d) (short_words d) refl refl i lt in omega arith)
     (λ (le : short_words d ≤ i). let l = length_long d (floor_log d) (short_words d) refl refl i le in omega arith)
     (cases_lt i (short_words d))
+
+-- the law of words
+pub word_law : (d : ℕ) → 1 ≤ d → d < 65536 → CodeLaw (λ i. nat_lt i d) (word d) (one_word d)
+word_law d some few =
+    record {
+      back = λ at i rest h. word_back d at i rest some few (ltb-true i d h);
+      exact = λ at i bits rest e. let x = word_exact d at i bits rest some few e in (lt-ltb i d x.0, x.1);
+    }

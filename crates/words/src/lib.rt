@@ -1,16 +1,17 @@
 //! The words of a count of numbers: each has one of two widths, and none begins another.
 #![tactic(auto)]
 
-ghost use Rattle.std.specs.Prelude.{◌≡◌, ℕ, suc, ◌+◌, ◌<◌, ◌≤◌, ◌++◌, length, MatchOption, nat_lt};
-ghost use Rattle.bits.specs.Stores.{left, Reads};
-ghost use Rattle.lengths.specs.Coding.{Wrote, Faithful, PartAs};
+ghost use Rattle.std.specs.Prelude.{◌≡◌, ℕ, suc, ◌+◌, ◌≤◌, length, MatchOption, nat_lt};
+ghost use Rattle.bits.specs.Stores.{left};
+ghost use Rattle.lengths.specs.Coding.{CodeLaw, PartAs};
 ghost use Rattle.words.specs.Words.{floor_log, short_words, word, one_word};
 
-use bits::{Sink, Source, append, or_back, take_part};
-use lengths::faults::{NumberFault, WriteFault};
+use bits::{Sink, Source, append, take_part};
+use lengths::codes::Code;
+use lengths::faults::NumberFault;
 
-/// The words of `count` numbers, from 0 on. One number alone has a word of no bits.
-#[derive(Clone, Copy)]
+/// The words of `count` numbers, from 0 on, as a code. One number alone has a word of no bits.
+#[derive(Clone, Copy, Debug, PartialEq, Eq)]
 pub struct Words {
     /// How many numbers have a word.
     pub count: u16,
@@ -39,12 +40,31 @@ impl Words {
         ensures value { result ≡ short_words self.count }
         ensures bound { result ≤ 65536 }
     {
-        (2u32 << self.width) - self.count as u32
+        (2u32 << self.width) - u32::from(self.count)
+    }
+}
+
+impl Code for Words {
+    type Value = u16;
+
+    type Plain = u16;
+
+    type Fault = NumberFault;
+
+    ghost plain = { λ i. i };
+
+    ghost lawful = { λ s i. nat_lt i s.count };
+
+    ghost code = { λ s. word s.count };
+
+    ghost parse = { λ s. one_word s.count };
+
+    fn is_lawful(&self, number: u16) -> bool {
+        number < self.count
     }
 
-    /// How many bits a number's word has.
-    pub fn length(self, number: u16) -> usize
-        ensures value { result ≡ length (word self.count number) }
+    fn length(&self, number: u16) -> usize
+        ensures value { result ≡ length (word self.now.count number) }
         ensures bound { result ≤ 16 }
     {
         if (number as u32) < self.short_words() {
@@ -54,13 +74,7 @@ impl Words {
         }
     }
 
-    /// Puts a number's word where room for it is known. For the layers above.
-    pub fn append_to<S: Sink>(self, sink: &mut S, number: u16)
-        requires { length (S.content sink.old).bits + length (word self.count number) ≤ (S.content sink.old).capacity }
-        ensures kept { S.kept sink.old sink.new }
-        ensures capacity { (S.content sink.new).capacity ≡ (S.content sink.old).capacity }
-        ensures bits { (S.content sink.new).bits ≡ (S.content sink.old).bits ++ word self.count number }
-    {
+    fn append_to<S: Sink>(&self, sink: &mut S, number: u16) {
         let short = self.short_words();
         if (number as u32) < short {
             append(sink, self.width, number as u32);
@@ -69,33 +83,10 @@ impl Words {
         }
     }
 
-    /// Writes a number's word, and answers how many bits that took. A number that has no word is refused with 15, want of room with 10.
-    pub fn write<S: Sink>(self, sink: &mut S, number: u16) -> Result<usize, WriteFault>
-        ensures kept { S.kept sink.old sink.new }
-        ensures wrote { Wrote (nat_lt number self.count) (word self.count number) (S.content sink.old) result (S.content sink.new) }
-    {
-        if number >= self.count {
-            return Err(WriteFault::Value);
-        }
-        let length = self.length(number);
-        sink.room_for(length)?;
-        self.append_to(sink, number);
-        Ok(length)
-    }
-
-    /// Reads a word, and answers its number. A source that ends within it is refused with 17, told at its first bit; then the source is as before.
-    pub fn read<S: Source>(self, source: &mut S) -> Result<u16, NumberFault>
-        ensures reads { Reads (one_word self.count) (S.tape source.old) result (S.tape source.new) }
-        ensures faithful { Faithful (word self.count) (λ i. i < self.count) (S.tape source.old) result (S.tape source.new) }
-    {
-        let start = source.position();
-        let answer = self.take_word(source, start);
-        or_back(source, start, answer)
-    }
-
-    /// A word that begins at `field`.
-    fn take_word<S: Source>(self, source: &mut S, field: usize) -> Result<u16, NumberFault>
-        ensures { PartAs (one_word self.count field (left (S.tape source.old))) (S.tape source.old) result (S.tape source.new) }
+    /// A source that ends within the word is refused with 17.
+    fn take<S: Source>(&self, source: &mut S, field: usize) -> Result<u16, NumberFault>
+        ensures part { PartAs (one_word self.now.count field (left (S.Source.tape source.old))) (S.Source.tape source.old) result (S.Source.tape source.new) }
+        ensures law { CodeLaw (λ i. nat_lt i self.now.count) (word self.now.count) (one_word self.now.count) }
     {
         let short = self.short_words();
         let first = take_part(source, self.width, field)?;

@@ -1,22 +1,19 @@
-use Rattle.std.proofs.Common.{◌≡◌, sym, ap, ◌∙◌, arith}
-use Rattle.availability.specs.Available.{available, before, numbered}
-use Rattle.availability.proofs.Ranks.{before_yes, before_no, numbered_at}
+use Rattle.std.proofs.Common.{◌≡◌, ℕ, get_or, false, Some, None, Option, refl, rules, tests, ◌∙◌}
+use Rattle.std.specs.Option.{unwrap_or, option_map}
+use Rattle.std.proofs.lemmas.Iterator.{YieldsList-from_range}
+use Rattle.std.proofs.lemmas.Iterator.Consumers.{nth_from_yields_List, YieldsList-from_filter}
+use Rattle.availability.specs.Available.{available}
+use Rattle.availability.proofs.Ranks.{numbered_is}
 use Rattle.availability.proofs.number_of.Goals as goal
-use Rattle.availability.proofs.number_of.Goals.{then-is_available+else-left-eq0, else-is_available}
 
-pub returns-then-left-eq0 : goal.returns-then-left-eq0
-returns-then-left-eq0 c =
-    let av = available c.args.fields in
-    let e = c.loop-n.invariant in
-    let is : before av c.loop-n.n ≡ c.args.word = omega arith in
-    record { value = sym (numbered_at av c.loop-n.n (sym c.if-is_available.ensures)) ∙ ap (numbered av) is; bound = omega arith }
+there : (found : Option ℕ) (k : ℕ) → option_map (λ x. x) found ≡ Some k → unwrap_or found 0 ≡ k
+there None k e = cc
+there (Some x) k e = cc
 
-pub loop-n-preserved : goal.loop-n-preserved
-loop-n-preserved c =
+pub returns-clause-value : goal.returns-clause-value
+returns-clause-value c =
     let av = available c.args.fields in
-    let n = c.loop-n.n in
-    let i = c.loop-n.invariant in
-    elim c.if-is_available.branch [
-      | then-is_available+else-left-eq0 w ↦ (let e = before_yes av n (sym w.if-is_available.ensures) in omega (arith, w.left-is, w.if-left-eq0.false))
-      | else-is_available w ↦ (let e = before_no av n (sym w.if-is_available.ensures) in omega (arith, w.left-is))
-    ]
+    let i = c.args.word in
+    let e = nth_from_yields_List c.nth.result c.nth.new.self i c.nth.ensures.ran
+    (YieldsList-from_filter _ (λ k. get_or av k false) (YieldsList-from_range 0 26 26 c.filter.ensures.source refl) c.filter.ensures.closure (λ x r q k. search (rules, tests))) in
+    c.unwrap_or.ensures ∙ there c.nth.result _ (e ∙ numbered_is av 26 i c.requires)

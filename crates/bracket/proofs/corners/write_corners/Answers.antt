@@ -9,21 +9,19 @@ pub returns-in_err-write_corner : goal.returns-in_err-write_corner
 returns-in_err-write_corner g c =
     let p = err_from_is_err_and c.from_residual.result c.from_residual.ensures.1 in
     let b = c.in_err-write_corner.ensures in
-    rw p.1 (record { kept = g.S.Sink.joined _ _ _ c.loop-i.invariant.0 b.kept; bits = tt })
+    rw p.1 (record { kept = g.S.Sink.joined _ _ _ c.loop-corner.invariant.0 b.kept; bits = tt })
 
-pub loop-i-preserved : goal.loop-i-preserved
-loop-i-preserved g c =
+pub loop-corner-preserved : goal.loop-corner-preserved
+loop-corner-preserved g c =
     let s = g.S.Sink in
     let b = c.in_ok-write_corner.ensures in (
-      s.joined _ _ _ c.loop-i.invariant.0 b.kept,
-      corner_more c.args.defaults.now.absolute.bits c.args.defaults.now.relative.bits c.loop-i.i c.args.corners.now _ (s.content c.loop-i.sink).bits c.loop-i-test.true b.bits c.loop-i.invariant.1,
+      s.joined _ _ _ c.loop-corner.invariant.0 b.kept,
+      corner_more c.args.defaults.now c.loop-corner.corner-index c.args.corners.now _ (s.content c.loop-corner.sink).bits c.loop-corner-test.true b.bits c.loop-corner.invariant.1,
     )
 
 pub returns : goal.returns
 returns g c =
     let s = g.S.Sink in
-    let a = c.args.defaults.now.absolute.bits in
-    let r = c.args.defaults.now.relative.bits in
-    let held = (s.content c.loop-i.sink).bits in
-    let none = drop_all c.loop-i.i c.args.corners.now c.loop-i-test.false in
-    record { kept = c.loop-i.invariant.0; bits = sym (append-nil held) ∙ ap (λ cs. held ++ corners_bits a r cs) (sym none) ∙ c.loop-i.invariant.1 }
+    let held = (s.content c.loop-corner.sink).bits in
+    let none = drop_all c.loop-corner.corner-index c.args.corners.now c.loop-corner-test.false in
+    record { kept = c.loop-corner.invariant.0; bits = sym (append-nil held) ∙ ap (λ cs. held ++ corners_bits c.args.defaults.now cs) (sym none) ∙ c.loop-corner.invariant.1 }

@@ -3,9 +3,8 @@ use Rattle.chain.specs.Chain.{met, spot, laid}
 use Rattle.layout.specs.Layout.{lent}
 use Rattle.chain.specs.Laws.{chain_stays}
 use Rattle.layout.proofs.Spots.{put_more, put_none}
-use Rattle.chain.proofs.Chains.{stays, moves, met_kept, linked_kept, chain_put, chain_kept}
+use Rattle.chain.proofs.Chains.{met_kept, linked_kept, chain_put, chain_kept}
 use Rattle.chain.proofs.ChainSinkSink.put.Goals as goal
-use Rattle.chain.proofs.ChainSinkSink.put.Goals.{then-place-eq239, else-place-eq239}
 
 pub returns-then-held-self : goal.returns-then-held-self
 returns-then-held-self c =
@@ -21,13 +20,8 @@ invariant_of-self c =
     let sets = c.with_bit.ensures in
     let room : s.held < 240 * s.count = omega arith in
     let place = 256 * s.block + (16 + s.held % 240) in
-    let next : c.if-place-eq239.next ≡ met bytes s.first ((s.held + 1) / 240) =
-    elim c.if-place-eq239.branch [
-      | then-place-eq239 w ↦ w.next-is ∙ moves bytes s.first s.held s.block s.here w.if-place-eq239.true
-      | else-place-eq239 w ↦ w.next-is ∙ stays bytes s.first s.held s.block s.here w.if-place-eq239.false
-    ] in
-    let here : c.if-place-eq239.next ≡ met (set bytes (place / 8) r) s.first ((s.held + 1) / 240) =
-    next ∙ sym (met_kept bytes s.first s.held s.block s.here s.count r b s.linked room sets ((s.held + 1) / 240)) in
+    let here : c.next_block-next.result ≡ met (set bytes (place / 8) r) s.first ((s.held + 1) / 240) =
+    c.next_block-next.ensures ∙ sym (met_kept bytes s.first s.held s.block s.here s.count r b s.linked room sets ((s.held + 1) / 240)) in
     let fits : s.held + 1 ≤ 240 * s.count = omega arith in
     let sized : 0 < s.count → length (set bytes (place / 8) r) ≤ 65536 = λ h. let l = length-set bytes (place / 8) r in let q = s.sized h in omega arith in
     record { linked = linked_kept bytes s.first s.held s.block s.here s.count r b s.linked room sets; fits = fits; here = here; small = s.small; sized = sized }

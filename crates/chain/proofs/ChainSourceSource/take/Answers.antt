@@ -1,9 +1,8 @@
-use Rattle.std.proofs.Common.{◌≡◌, ◌+◌, ◌/◌, ◌≤◌, ◌∙◌, arith}
-use Rattle.chain.specs.Chain.{met, spot}
+use Rattle.std.proofs.Common.{◌+◌, ◌≤◌, ◌∙◌, arith}
+use Rattle.chain.specs.Chain.{spot}
 use Rattle.layout.proofs.Spots.{take_next, take_none}
-use Rattle.chain.proofs.Chains.{stays, moves, bit_here}
+use Rattle.chain.proofs.Chains.{bit_here}
 use Rattle.chain.proofs.ChainSourceSource.take.Goals as goal
-use Rattle.chain.proofs.ChainSourceSource.take.Goals.{then-place-eq239, else-place-eq239}
 
 pub returns-then-position-self : goal.returns-then-position-self
 returns-then-position-self c =
@@ -14,13 +13,8 @@ pub invariant_of-self : goal.invariant_of-self
 invariant_of-self c =
     let s = c.args.self.now in
     let bytes = s.bytes.now in
-    let here : c.if-place-eq239.next ≡ met bytes s.first ((s.position + 1) / 240) =
-    elim c.if-place-eq239.branch [
-      | then-place-eq239 w ↦ w.next-is ∙ w.link-next.ensures ∙ moves bytes s.first s.position s.block s.here w.if-place-eq239.true
-      | else-place-eq239 w ↦ w.next-is ∙ stays bytes s.first s.position s.block s.here w.if-place-eq239.false
-    ] in
     let ahead : s.position + 1 ≤ s.end = omega arith in
-    record { linked = s.linked; fits = s.fits; here = here; ahead = ahead }
+    record { linked = s.linked; fits = s.fits; here = c.block_after-next.ensures s.first s.here; ahead = ahead }
 
 pub returns : goal.returns
 returns c =

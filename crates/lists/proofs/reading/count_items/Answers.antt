@@ -18,11 +18,10 @@ returns-then-is_none g c =
       within = i.fits;
     }
 
-pub returns-then-count-most : goal.returns-then-count-most
-returns-then-count-most g c =
+pub returns-then-count-LIMIT : goal.returns-then-count-LIMIT
+returns-then-count-LIMIT g c =
     let S = g.S.Source in
     let p = c.position-position.ensures in
-    let m = c.most_items-most.ensures in
     record {
       part = turn_limit c.loop-item.invariant (S.tape c.read.new.source) (g.met.K.ItemKind.exact c.args.configuration.now) (S.within c.loop-item.source) c.in_ok-item.item c.in_ok-item.ensures
           c.if-is_none.ensures _ (omega arith) (omega arith);
@@ -33,7 +32,6 @@ pub returns-then-count-places : goal.returns-then-count-places
 returns-then-count-places g c =
     let S = g.S.Source in
     let p = c.position-position.ensures in
-    let m = c.most_items-most.ensures in
     record {
       part = turn_place c.loop-item.invariant (S.tape c.read.new.source) (g.met.K.ItemKind.exact c.args.configuration.now) (S.within c.loop-item.source) c.in_ok-item.item c.in_ok-item.ensures
           c.if-is_none.ensures _ (omega arith) (omega arith) (omega arith);
@@ -43,6 +41,5 @@ returns-then-count-places g c =
 pub loop-item-preserved : goal.loop-item-preserved
 loop-item-preserved g c =
     let S = g.S.Source in
-    let m = c.most_items-most.ensures in
     turn_on c.loop-item.invariant (S.tape c.read.new.source) (g.met.K.ItemKind.exact c.args.configuration.now) (S.within c.loop-item.source) c.in_ok-item.item c.in_ok-item.ensures
     c.if-is_none.ensures (S.within c.read.new.source) (omega arith) (omega arith)

@@ -11,7 +11,7 @@ returns-then-not-lengths_lawful g c =
     let k = K.kind c.args.configuration.now in
     let r = c.index-items-index.result in
     let h = here c.args.items.now c.loop-index.index r c.loop-index-test.true c.index-items-index.is in
-    let no = asked_no h K.list (λ x. lengths_asked (k.asked x)) Length (lengths_no (k.asked r) c.if-not-lengths_lawful.ensures) in
+    let no = asked_no h K.LIST (λ x. lengths_asked (k.asked x)) Length (lengths_no (k.asked r) c.if-not-lengths_lawful.ensures) in
     rw (c.loop-index.invariant ∙ no) (ap Err c.at_item.ensures)
 
 pub loop-index-preserved : goal.loop-index-preserved
@@ -20,10 +20,10 @@ loop-index-preserved g c =
     let k = K.kind c.args.configuration.now in
     let r = c.index-items-index.result in
     let h = here c.args.items.now c.loop-index.index r c.loop-index-test.true c.index-items-index.is in
-    c.loop-index.invariant ∙ asked_on h K.list (λ x. lengths_asked (k.asked x)) (lengths_yes (k.asked r) c.if-not-lengths_lawful.ensures)
+    c.loop-index.invariant ∙ asked_on h K.LIST (λ x. lengths_asked (k.asked x)) (lengths_yes (k.asked r) c.if-not-lengths_lawful.ensures)
 
 pub returns : goal.returns
 returns g c =
     let K = g.K.ItemKind in
     let k = K.kind c.args.configuration.now in
-    rw (c.loop-index.invariant ∙ at_drop_all (first_no K.list (λ x. lengths_asked (k.asked x)) c.loop-index.index) c.args.items.now c.loop-index.index c.loop-index-test.false)
+    rw (c.loop-index.invariant ∙ at_drop_all (first_no K.LIST (λ x. lengths_asked (k.asked x)) c.loop-index.index) c.args.items.now c.loop-index.index c.loop-index-test.false)

@@ -19,7 +19,7 @@ returns-then-not-is_available g c =
     let k = K.kind c.args.configuration.now in
     let r = c.index-items-index.result in
     let h = here c.args.items.now c.loop-index.index r c.loop-index-test.true c.index-items-index.is in
-    let no = asked_no h K.list (λ x. item_asked (k.asked x)) Unavailable (available_no (k.asked r) c.if-not-is_available.ensures) in
+    let no = asked_no h K.LIST (λ x. item_asked (k.asked x)) Unavailable (available_no (k.asked r) c.if-not-is_available.ensures) in
     record { value = rw (c.loop-index.invariant.1 ∙ no) (ap Err c.at_item.ensures); bound = tt }
 
 pub returns-then-not-values_lawful : goal.returns-then-not-values_lawful
@@ -28,7 +28,7 @@ returns-then-not-values_lawful g c =
     let k = K.kind c.args.configuration.now in
     let r = c.index-items-index.result in
     let h = here c.args.items.now c.loop-index.index r c.loop-index-test.true c.index-items-index.is in
-    let no = asked_no h K.list (λ x. item_asked (k.asked x)) Value (values_no (k.asked r) c.if-not-is_available.ensures c.if-not-values_lawful.ensures) in
+    let no = asked_no h K.LIST (λ x. item_asked (k.asked x)) Value (values_no (k.asked r) c.if-not-is_available.ensures c.if-not-values_lawful.ensures) in
     record { value = rw (c.loop-index.invariant.1 ∙ no) (ap Err c.at_item-then-not-values_lawful.ensures); bound = tt }
 
 pub length-total-requires : goal.length-total-requires
@@ -37,7 +37,7 @@ length-total-requires g c =
     let k = K.kind c.args.configuration.now in
     let r = c.index-items-index.result in
     let h = here c.args.items.now c.loop-index.index r c.loop-index-test.true c.index-items-index.is in
-    lawful_if (k.asked r) (asked_yes h K.list (λ x. lengths_asked (k.asked x)) c.loop-index.invariant.0) (item_yes (k.asked r) c.if-not-is_available.ensures c.if-not-values_lawful.ensures)
+    lawful_if (k.asked r) (asked_yes h K.LIST (λ x. lengths_asked (k.asked x)) c.loop-index.invariant.0) (item_yes (k.asked r) c.if-not-is_available.ensures c.if-not-values_lawful.ensures)
 
 pub loop-index-preserved : goal.loop-index-preserved
 loop-index-preserved g c =
@@ -46,12 +46,12 @@ loop-index-preserved g c =
     let r = c.index-items-index.result in
     let h = here c.args.items.now c.loop-index.index r c.loop-index-test.true c.index-items-index.is in
     let i = c.loop-index.invariant in
-    let l = asked_yes h K.list (λ x. lengths_asked (k.asked x)) i.0 in
+    let l = asked_yes h K.LIST (λ x. lengths_asked (k.asked x)) i.0 in
     let m = length_here k h in
     let n = c.length-total.ensures.value in
     let b = c.length-total.ensures.bound in (
-      sym (asked_on h K.list (λ x. lengths_asked (k.asked x)) l) ∙ i.0,
-      i.1 ∙ asked_on h K.list (λ x. item_asked (k.asked x)) (item_yes (k.asked r) c.if-not-is_available.ensures c.if-not-values_lawful.ensures),
+      sym (asked_on h K.LIST (λ x. lengths_asked (k.asked x)) l) ∙ i.0,
+      i.1 ∙ asked_on h K.LIST (λ x. item_asked (k.asked x)) (item_yes (k.asked r) c.if-not-is_available.ensures c.if-not-values_lawful.ensures),
       omega (arith, i.2),
       omega (arith, i.3),
     )
@@ -61,7 +61,7 @@ returns g c =
     let K = g.K.ItemKind in
     let k = K.kind c.args.configuration.now in
     let i = c.loop-index.invariant in
-    let f = at_drop_all (first_no K.list (λ x. item_asked (k.asked x)) c.loop-index.index) c.args.items.now c.loop-index.index c.loop-index-test.false in
+    let f = at_drop_all (first_no K.LIST (λ x. item_asked (k.asked x)) c.loop-index.index) c.args.items.now c.loop-index.index c.loop-index-test.false in
     let n = at_drop_all (λ xs. length (items_bits k xs)) c.args.items.now c.loop-index.index c.loop-index-test.false in
     let e : c.loop-index.total ≡ length (list_bits k c.args.items.now) = omega (arith, i.2) in
     record { value = rw (i.1 ∙ f) (ap Ok e); bound = omega (arith, i.3, c.requires.0, K.few) }

@@ -7,7 +7,7 @@ abbrev pub invariant-loop-index : goal.invariant-loop-index
 invariant-loop-index g l =
     let K = g.K.ItemKind in
     let k = K.kind l.configuration in
-    (first_no K.list (λ r. lengths_asked (k.asked r)) l.index (drop l.index l.items) ≡ None)
-    × (first_no K.list (λ r. item_asked (k.asked r)) 0 l.items ≡ first_no K.list (λ r. item_asked (k.asked r)) l.index (drop l.index l.items))
+    (first_no K.LIST (λ r. lengths_asked (k.asked r)) l.index (drop l.index l.items) ≡ None)
+    × (first_no K.LIST (λ r. item_asked (k.asked r)) 0 l.items ≡ first_no K.LIST (λ r. item_asked (k.asked r)) l.index (drop l.index l.items))
     × (l.total + length (items_bits k (drop l.index l.items)) ≡ length (list_bits k l.items))
     × (l.total ≤ 16777216 * (l.index + 1))

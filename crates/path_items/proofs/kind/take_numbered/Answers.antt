@@ -1,17 +1,17 @@
-use Rattle.std.proofs.Common.{◌≡◌, ◌+◌, [], ◌∷◌, ◌++◌, set, Some, Ok, refl, ap, ◌∙◌, arith, w32, SFits, rules}
-use Rattle.std.proofs.lemmas.List.{length_push}
+use Rattle.std.proofs.Common.{◌≡◌, ◌-◌, ◌<◌, set, ◌++◌, length, take, replicate, pos, Some, Ok, sym, refl, ap, ◌∙◌, arith, w32, SFits, rules, length-take-le, add-one}
+use Rattle.std.proofs.Math.Seq.{take-suc-set}
+use Rattle.std.proofs.lemmas.List.{drop-replicate, take_all}
 use Rattle.std.proofs.lemmas.Result.{err_from_is_err_and}
 use Rattle.std.proofs.lemmas.Int.{to_z-of_z}
-use Rattle.bits.specs.Stores.{left}
+use Rattle.bits.specs.Stores.{left, mapped}
 use Rattle.bits.proofs.Steps.{read_ok}
 use Rattle.lengths.proofs.CodingLaws.{part_got, part_refused}
 use Rattle.commands.specs.Commands.{command}
-use Rattle.items.specs.Sequences.{mapped}
 use Rattle.items.proofs.SequenceLaws.{went_on}
-use Rattle.path_items.specs.Paths.{value_code, one_value}
-use Rattle.path_items.specs.CommandLaws.{row_small, command_is, filled_more, numbered_as}
+use Rattle.path_items.specs.Paths.{form_of, value_code, one_value}
+use Rattle.path_items.specs.CommandLaws.{command_is, numbered_as}
+use Rattle.path_items.specs.ValueLaws.{form_exact}
 use Rattle.path_items.proofs.Reading.{turn_more, turn_stop, turn_end}
-use Rattle.path_items.specs.ValueLaws.{value_exact}
 use Rattle.path_items.proofs.kind.take_numbered.Goals as goal
 
 pub returns-in_err-value : goal.returns-in_err-value
@@ -22,15 +22,12 @@ returns-in_err-value g c =
     let e = c.row-entry.result in
     let s = S.tape c.args.source.now in
     let i = c.loop-index.invariant in
+    let more : c.loop-index.index < e.value_count = omega (arith, length-take-le e.value_count (replicate 8 (pos 0)) c.row-entry.ensures.bound) in
     let p = err_from_is_err_and c.from_residual.result c.from_residual.ensures.1 in
-    let k = turn_stop (one_value w.configuration.fields w.defaults e) e.1 s c.loop-index.index i.1.0 (S.tape c.loop-index.source) i.1.3
-    c.loop-index-test.true (S.tape c.read_value.new.source) _ c.in_err-value.ensures in
-    let x = numbered_as w.configuration.fields w.defaults n s.position (left s) e c.if-number-eq-DONE.false c.row-entry.ensures ∙ ap (mapped (λ vs. Some (command n vs))) k.0 in
+    let k = turn_stop (one_value w e) e.value_count s c.loop-index.index _ (S.tape c.loop-index.source) i.1 more (S.tape c.read.new.source) _ (rw c.new.ensures at c.in_err-value.ensures) in
+    let x = numbered_as w n s.position (left s) e c.if-number-eq-DONE.false c.row-entry.ensures.value ∙ ap (mapped (λ vs. Some (command n vs))) k.0 in
     let q = ap (λ z. z.position) k.1 in
     rw (p.1, p.2) (part_refused _ _ _ _ x refl (ap (λ z. z.bits) k.1 ∙ i.0.same) (omega (arith, i.0.moved)))
-
-pub bounds-values-index : goal.bounds-values-index
-bounds-values-index g c = let l = row_small c.row-entry.result c.args.number c.row-entry.ensures in omega arith
 
 pub loop-index-preserved : goal.loop-index-preserved
 loop-index-preserved g c =
@@ -38,26 +35,20 @@ loop-index-preserved g c =
     let w = c.args.agreed.now in
     let e = c.row-entry.result in
     let j = c.loop-index.index in
-    let v = c.in_ok-value.value in
+    let v = c.in_ok-value.field-0 in
     let s = S.tape c.args.source.now in
     let t = S.tape c.loop-index.source in
-    let u = S.tape c.read_value.new.source in
-    let field = one_value w.configuration.fields w.defaults e in
-    let few = row_small e c.args.number c.row-entry.ensures in
+    let u = S.tape c.read.new.source in
+    let field = one_value w e in
     let f : SFits w32 v = search rules in
+    let long = length-take-le e.value_count (replicate 8 (pos 0)) c.row-entry.ensures.bound in
     let i = c.loop-index.invariant in
-    let h = c.in_ok-value.ensures in
-    let x = value_exact w.configuration.fields w.defaults e w.configuration.lawful j t.position v (left t) (left u) (read_ok (field j t.position (left t)) t u v h).0 in
-    let k = turn_more field e.1 s j i.1.0 t i.1.3 c.loop-index-test.true u v (value_code w.configuration.fields w.defaults e j v)
-    (S.within c.loop-index.source) (S.within c.read_value.new.source) x.1 h in (
-      went_on s t u i.0 k.1,
-      (
-        i.1.0 ++ v ∷ [],
-        length_push i.1.0 v ∙ ap (λ n. n + 1) i.1.1,
-        simp to_z-of_z (ap (λ xs. set xs j v) i.1.2 ∙ filled_more i.1.0 v j i.1.1 (omega arith)),
-        k.0,
-      ),
-    )
+    let h = (rw c.new.ensures at c.in_ok-value.ensures) in
+    let x = form_exact w (form_of e j) t.position v (left t) (left u) (read_ok (field j t.position (left t)) t u v h).0 in
+    let taken = take j c.loop-index.used in
+    let k = turn_more field e.value_count s j taken t i.1 (omega arith) u v (value_code w e j v) (S.within c.loop-index.source) (S.within c.read.new.source) x.1 h in
+    let one = ap (λ n. take n (set c.loop-index.used j v)) (add-one j) ∙ take-suc-set c.loop-index.used j v (omega (arith, c.loop-index.auto.used)) in
+    (went_on s t u i.0 k.1, simp to_z-of_z (rw one k.0))
 
 pub returns : goal.returns
 returns g c =
@@ -67,8 +58,12 @@ returns g c =
     let e = c.row-entry.result in
     let s = S.tape c.args.source.now in
     let i = c.loop-index.invariant in
-    let few = row_small e n c.row-entry.ensures in
-    let all : c.loop-index.index ≡ e.1 = omega arith in
-    let k = turn_end (one_value w.configuration.fields w.defaults e) e.1 s c.loop-index.index i.1.0 (S.tape c.loop-index.source) i.1.3 all in
-    let x = numbered_as w.configuration.fields w.defaults n s.position (left s) e c.if-number-eq-DONE.false c.row-entry.ensures ∙ ap (mapped (λ vs. Some (command n vs))) k in
-    part_got _ _ _ _ _ x (ap (λ r. Ok (Some r)) (command_is n i.1.0 c.loop-index.values c.loop-index.index i.1.1 (omega arith) i.1.2)) i.0.same refl i.0.moved
+    let long = length-take-le e.value_count (replicate 8 (pos 0)) c.row-entry.ensures.bound in
+    let all : c.loop-index.index ≡ e.value_count = omega arith in
+    let k = turn_end (one_value w e) e.value_count s c.loop-index.index _ (S.tape c.loop-index.source) i.1 all in
+    let x = numbered_as w n s.position (left s) e c.if-number-eq-DONE.false c.row-entry.ensures.value ∙ ap (mapped (λ vs. Some (command n vs))) k in
+    let used = c.loop-index.used in
+    let taken = take_all c.loop-index.index used (omega (arith, c.loop-index.auto.used)) in
+    let filled = ap (λ zeros. used ++ zeros) (drop-replicate e.value_count 8 (pos 0)) ∙ ap (λ vs. vs ++ replicate (8 - e.value_count) (pos 0)) (sym taken) in
+    let is = command_is n (take c.loop-index.index used) _ e.value_count (omega (arith, ap length taken, c.loop-index.auto.used)) c.row-entry.ensures.bound filled in
+    part_got _ _ _ _ _ x (ap (λ r. Ok (Some r)) is) i.0.same refl i.0.moved

@@ -1,8 +1,9 @@
-use Rattle.transform_items.proofs.Writing.{rest_from, Owes}
+use Rattle.bits.proofs.Steps.{Due}
+use Rattle.transform_items.proofs.Writing.{rest_from}
 use Rattle.transform_items.proofs.TransformsItemKind.append.Given as goal
 
-abbrev pub invariant-loop-index : goal.invariant-loop-index
-invariant-loop-index g l =
-    let s = g.S.Sink in
-    s.kept l.initial.sink l.sink
-    × Owes (s.content l.initial.sink) (s.content l.sink) (rest_from l.default.bits l.item l.index) (rest_from l.default.bits l.item 0)
+abbrev pub invariant-loop-argument : goal.invariant-loop-argument
+invariant-loop-argument g l =
+    let S = g.S.Sink in
+    let d = l.default.bits in
+    S.kept l.initial.sink l.sink × Due (S.content l.initial.sink) (rest_from d l.item 0) (S.content l.sink) (rest_from d l.item l.argument-index)

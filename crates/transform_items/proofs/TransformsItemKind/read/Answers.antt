@@ -5,17 +5,12 @@ use Rattle.transform_items.specs.Transforms.{one_transform}
 use Rattle.transform_items.proofs.TransformsItemKind.read.Goals as goal
 
 pub or_back-requires : goal.or_back-requires
-or_back-requires g c =
-    let S = g.S.Source in
-    let p = c.position-start.ensures in
-    let m = part_moved _ (S.tape c.args.source.now) (S.tape c.take_transform-answer.new.source) c.take_transform-answer.result c.take_transform-answer.ensures in
-    omega arith
+or_back-requires g c = omega (arith, c.position-start.ensures, part_moved _ _ _ _ c.take_transform-answer.ensures)
 
 pub returns : goal.returns
 returns g c =
     let S = g.S.Source in
-    let s = S.tape c.args.source.now in
-    let t = S.tape c.take_transform-answer.new.source in
-    let answer = c.take_transform-answer.result in
-    completed (one_transform c.args.configuration.now.absolute.bits) s t (S.tape c.or_back.new.source) s.position answer c.or_back.result
-    refl c.take_transform-answer.ensures c.or_back.ensures.answer (c.or_back.ensures.tape ∙ ap (λ n. returned (is_ok answer) n t) c.position-start.ensures) (S.within c.or_back.new.source)
+    let taken = c.take_transform-answer in
+    let back = c.or_back in
+    let tape = back.ensures.tape ∙ ap (λ n. returned (is_ok taken.result) n (S.tape taken.new.source)) c.position-start.ensures in
+    completed (one_transform c.args.configuration.now.absolute.bits) _ _ _ _ _ _ refl taken.ensures back.ensures.answer tape (S.within back.new.source)

@@ -1,4 +1,4 @@
-use Rattle.std.proofs.Common.{not, length, refl, ap, ◌∙◌, arith}
+use Rattle.std.proofs.Common.{not, length, refl, ap, ◌∙◌, arith, rules}
 use Rattle.bits.specs.Codes.{fixed}
 use Rattle.lengths.specs.Fields.{field_code}
 use Rattle.configurations.specs.Settings.{sends_mode, uses_absolute, uses_relative, sends_lines, sends_curves}
@@ -8,8 +8,8 @@ use Rattle.configurations.proofs.path.PathConfiguration.length.Goals as goal
 pub returns : goal.returns
 returns c =
     let v = c.args.self.fields in
-    let x = c.length.ensures ∙ ap (λ n. length (field_code n)) c.field_of.ensures in
-    let y = c.length-2.ensures ∙ ap (λ n. length (field_code n)) c.field_of-2.ensures in
+    let x = c.length.ensures ∙ ap (λ n. length (field_code n)) (c.of.ensures (search rules)) in
+    let y = c.length-2.ensures ∙ ap (λ n. length (field_code n)) (c.of-2.ensures (search rules)) in
     let u = length_sent (sends_curves v.flags) (fixed 4 v.curves) c.sent_length-curves.ensures.value (ap not c.flagged-3.ensures) refl in
     let l = length_on (sends_lines v.flags) (fixed 2 v.lines) (from_curves v) c.sent_length-lines.ensures.value c.flagged-2.ensures refl u in
     let r = length_on (uses_relative v.flags v.mode) (field_code v.relative) (from_lines v) c.sent_length-relative.ensures.value c.uses_relative.ensures y l in

@@ -19,7 +19,7 @@ returns g c =
     let w = c.args.configuration.now in
     let s = S.tape c.args.source.now in
     let t = S.tape c.take_command-answer.new.source in
-    let parse = one_command w.configuration.fields w.defaults in
+    let parse = one_command w in
     let a = c.take_command-answer in
     completed parse s t (S.tape c.or_back.new.source)
     c.position-start.result a.result c.or_back.result
