@@ -35,9 +35,12 @@ fn field_of(case: &Case) -> Option<LengthField> {
     }
 }
 
-/// Writes the number of a case, after its length field if it has one, and answers the count of bits.
-fn write_case<S: Sink>(sink: &mut S, case: &Case) -> Result<usize, WriteFault> {
-    let code_length = length_of(case).ok_or(WriteFault::Value)?;
+/// Writes the number of a case at a code length, after its length field if it has one, and answers the count of bits.
+fn write_case<S: Sink>(
+    sink: &mut S,
+    case: &Case,
+    code_length: CodeLength,
+) -> Result<usize, WriteFault> {
     if let Some(field) = field_of(case) {
         LengthFields.write(sink, field)?;
     }
@@ -52,7 +55,10 @@ fn write_case<S: Sink>(sink: &mut S, case: &Case) -> Result<usize, WriteFault> {
 fn compare(rt: &impl Print, case: &Case) -> io::Result<bool> {
     let mut bytes = [0u8; 16];
     let mut sink = FlatSink::over(&mut bytes, 0);
-    let count = write_case(&mut sink, case).unwrap_or(0);
+    let count = match length_of(case) {
+        Some(code_length) => write_case(&mut sink, case, code_length).unwrap_or(0),
+        None => 0,
+    };
     let mut source = FlatSource::over(&bytes, count);
     let same = compare_bits(rt, case.given, case.expected, &mut source)?;
     tell_same(rt, same)
