@@ -1,4 +1,8 @@
 //! Calls that should be refused, told.
+ghost use Rattle.std.specs.Prelude.{◌≡◌, Result};
+ghost use Rattle.std.specs.Fn.{FnOnceReturnsAtMut};
+ghost use Rattle.std.specs.Result.{result_err};
+
 use bits::Source;
 use std::fmt::Display;
 use std::io;
@@ -17,6 +21,9 @@ pub fn attempt_read<S: Source, T: Drop, F: Drop, C: FnOnce(&mut S) -> Result<T, 
     call: C,
 ) -> Attempt<F>
     requires { C.IsAlwaysCallable call }
+    ensures before { result.before ≡ (S.tape source.old).position }
+    ensures after { result.after ≡ (S.tape source.new).position }
+    ensures fault { (answer : Result T F) × FnOnceReturnsAtMut C.FnOnce call source.old answer source.new × (result.fault ≡ result_err answer) }
 {
     let before = S::position(source);
     let fault = call(source).err();
