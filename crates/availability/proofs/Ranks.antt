@@ -1,5 +1,5 @@
 -- Word numbers among any list of tests, and of the available commands.
-use Rattle.std.proofs.Common.{◌≡◌, ℕ, zero, suc, ◌+◌, ◌<◌, ◌≤◌, Bool, true, false, ◌&&◌, nat_lt, List, [], ◌∷◌, length, get_or, Some, refl, ap, ◌∙◌, zero-add, one-add, arith}
+use Rattle.std.proofs.Common.{◌≡◌, ℕ, zero, suc, ◌+◌, ◌<◌, ◌≤◌, Bool, true, false, cond, ◌&&◌, nat_lt, List, [], ◌∷◌, length, get_or, Some, refl, ap, ◌∙◌, zero-add, add-one, one-add, arith}
 use Rattle.std.specs.List.{filter, range_with_len, slice_get}
 use Rattle.std.proofs.lemmas.List.{get_or_past}
 use Rattle.std.proofs.lemmas.Bool.{ltb-true, ltb-false}
@@ -50,6 +50,19 @@ before_counts av n = counts (λ k. get_or av k false) 0 av (itself av) n
 -- the available one of a word number
 pub numbered_is : (av : List Bool) (n i : ℕ) → i < before av n → slice_get (filter (λ k. get_or av k false) (range_with_len 0 n)) i ≡ Some (numbered av i)
 numbered_is av n i l = picked (λ k. get_or av k false) 0 av (itself av) n i l ∙ ap Some (zero-add (numbered av i))
+
+-- one more that is available, or not
+before_suc : (av : List Bool) (n : ℕ) → before av (suc n) ≡ before av n + cond (get_or av n false) 1 0
+before_suc [] zero = refl
+before_suc [] (suc n) = refl
+before_suc (a ∷ av) zero = omega arith
+before_suc (a ∷ av) (suc n) = let e = before_suc av n in omega arith
+
+pub before_yes : (av : List Bool) (n : ℕ) → get_or av n false ≡ true → before av (n + 1) ≡ before av n + 1
+before_yes av n e = rw (add-one n, before_suc av n, e)
+
+pub before_no : (av : List Bool) (n : ℕ) → get_or av n false ≡ false → before av (n + 1) ≡ before av n
+before_no av n e = rw (add-one n, before_suc av n, e) (omega arith)
 
 -- the number of a word number, and back
 pub numbered_at : (av : List Bool) (n : ℕ) → get_or av n false ≡ true → numbered av (before av n) ≡ n
@@ -104,6 +117,10 @@ available_is c n = go (nat_lt n 26) refl
     go : (b : Bool) → nat_lt n 26 ≡ b → get_or (choose c rows) n false ≡ (b && is_available c (row_of n))
     go true e = chosen_at c rows n (ltb-true n 26 e)
     go false e = let l = ltb-false n 26 e in get_or_past (choose c rows) n false (omega arith)
+
+pub available_at : (c : PathFields) (n : ℕ) → n < 26 → get_or (available c) n false ≡ is_available c (row_of n)
+unfolding available
+available_at c n h = chosen_at c rows n h
 
 -- DONE is available, so there is a word
 pub done_available : (c : PathFields) → get_or (available c) 25 false ≡ true

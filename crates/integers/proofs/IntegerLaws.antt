@@ -19,7 +19,7 @@ use Rattle.integers.specs.Integers.{in_range, offset, absolute_code, integer_cod
 use Rattle.naturals.proofs.Pieces.{number_ones, ones_from_largest}
 use Rattle.naturals.proofs.NaturalLaws.{back, only}
 
--- a value that was read by way of another
+-- a value in range that was read
 pub ranged_got : (p : ℕ) (x : Parse NumberFault ℤ) (v : ℤ) (rest : List Bool) → ranged p x ≡ got v rest → (x ≡ got v rest) × (in_range v ≡ true)
 ranged_got p (refused z) v rest e = cc
 ranged_got p (got w more) v rest e = go (in_range w) refl e
@@ -128,12 +128,12 @@ integer_exact mode cl at v bits rest one e =
     let w : g.0 ≡ v +ℤ o = sym (back_and_there g.0 o) ∙ ap (λ x. x +ℤ o) (sym g.2) in
     (r.1, absolute_exact sum_limit at cl g.0 bits rest one g.1 ∙ ap (λ x. absolute_code cl x ++ rest) w)
 
--- the code of an integer by its form
 -- the law of integers in a mode at a code length
 pub integer_law : (mode : Mode) (cl : ℕ) → 1 ≤ cl → cl ≤ 14 → CodeLaw in_range (integer_code mode cl) (one_integer mode cl)
 integer_law mode cl one few =
     record { back = λ at v rest h. integer_back mode cl at v rest one few h; exact = λ at v bits rest e. integer_exact mode cl at v bits rest one e }
 
+-- the code of an integer by its form
 pub shape_single : (cl n : ℕ) (w : ℤ) → w ≡ pos n → n < largest cl → fixed cl n ≡ absolute_code cl w
 unfolding absolute_code
 shape_single cl n w e h = rw (e, lt-ltb n (largest cl) h)

@@ -18,7 +18,7 @@ use Rattle.path_items.specs.Paths.{length_for, form_lawful, form_code}
 use Rattle.path_items.specs.ValueLaws.{length_for_lawful}
 
 -- the code of an integer is hardly longer than its amount
-absolute_size : (cl : ℕ) (w : ℤ) → cl ≤ 14 → unsigned_abs w ≤ 1056767 → length (absolute_code cl w) ≤ 1100000
+pub absolute_size : (cl : ℕ) (w : ℤ) → cl ≤ 14 → unsigned_abs w ≤ 1056767 → length (absolute_code cl w) ≤ 1100000
 unfolding absolute_code
 absolute_size cl (negsuc n) few h = omega (arith, length_escaped cl n false, length_natural cl n, natural_near cl n)
 absolute_size cl (pos n) few h =
@@ -27,7 +27,7 @@ absolute_size cl (pos n) few h =
     (λ e. let r = n - largest cl in omega (arith, length_escaped cl r true, length_natural cl r, natural_near cl r))
 
 -- a value in range, moved by what its mode adds
-moved_small : (v o : ℤ) → in_range v ≡ true → pos 0 ≤ℤ o → o ≤ℤ pos 8191 → unsigned_abs (v +ℤ o) ≤ 1056767
+pub moved_small : (v o : ℤ) → in_range v ≡ true → pos 0 ≤ℤ o → o ≤ℤ pos 8191 → unsigned_abs (v +ℤ o) ≤ 1056767
 moved_small (pos n) o h lo hi = let l = ltb-true n 1048576 h in omega (arith, ints)
 moved_small (negsuc n) o h lo hi = let l = ltb-true n 1048576 h in omega (arith, ints)
 

@@ -9,7 +9,7 @@ use Rattle.lengths.proofs.CodingLaws.{Taken, took, missed, part_got, part_refuse
 use Rattle.words.specs.Words.{floor_log, short_words, one_word}
 use Rattle.words.proofs.WordLaws.{log_small, one_more, way_first, way_ended, way_last, read_by}
 
--- a word whose first k bits were took as v
+-- a word whose first k bits were taken as v
 module _ (d k u field v : ℕ) (s t : Tape) (is : k ≡ floor_log d) (e : u ≡ short_words d) (at-s : s.position ≤ length s.bits) (first : ReadAs (one_field k field (left s)) s (Ok v) t) where
   begun : Taken k s v t
   begun = took k field s t v (omega (arith, log_small d)) at-s first
@@ -29,7 +29,7 @@ module _ (d k u field v : ℕ) (s t : Tape) (is : k ≡ floor_log d) (e : u ≡ 
         part_refused _ _ _ _ (read_by d k u is e field (left s) ∙ way_ended k u field (left s) v begun.value begun.enough le none)
         (ap (λ z. Err (Store z)) m.1) (ap (λ z. z.bits) m.2 ∙ begun.same) (omega (arith, begun.moved))
 
-    -- they are not, and the last bit was took as n
+    -- they are not, and the last bit was taken as n
     module _ (n : ℕ) (at-t : t.position ≤ length t.bits) (h : ReadAs (one_field 1 field (left t)) t (Ok n) x) where
       last : Taken 1 t n x
       last = took 1 field t x n (omega arith) at-t h
