@@ -14,10 +14,9 @@ use Rattle.items.specs.Kinds.{lawful}
 use Rattle.items.specs.Sequences.{in_order, only_used, is_zero}
 use Rattle.availability.specs.Available.{row_of}
 use Rattle.path_items.specs.declared.agreed.AgreedConfiguration.{AgreedConfiguration}
-use Rattle.path_items.specs.declared.form.ValueForm.{ValueForm}
 use Rattle.path_items.specs.declared.form.ValueForm.TheVariants.{Flag, Integer}
 use Rattle.path_items.specs.Paths.{length_for, mode_of, is_flag, form_of, form_lawful, form_code, value_lawful, value_code, one_value, path_commands}
-use Rattle.path_items.specs.ValueLaws.{form_back, form_exact}
+use Rattle.path_items.specs.ValueLaws.{lawful_as, code_as, form_back, form_exact}
 use Rattle.path_items.specs.CommandLaws.{sound}
 use Rattle.path_items.proofs.Sizes.{form_size}
 use Rattle.path_items.proofs.Writing.{order_next, order_end}
@@ -56,17 +55,28 @@ value_at allowed idle n vs k d e h l =
     let on = sym (used_next allowed idle n vs k d h) ∙ used_on allowed idle n vs k d e (omega arith) in
     rw (lt-ltb k n l) at (and_parts (cond (nat_lt k n) (allowed k a) (idle a)) (only_used allowed idle n (k + 1) (drop (k + 1) vs)) on).0
 
--- a flag is put as its lowest bit, by whether the value is a flag
-flag_as : (w : AgreedConfiguration) (b : Bool) (other : ValueForm) (v : ℤ) → b ≡ true → form_lawful (cond b Flag other) v ≡ true → bit 0 (unsigned_abs v) ∷ [] ≡ form_code w (cond b Flag other) v
-flag_as w true other (pos zero) e h = refl
-flag_as w true other (pos (suc zero)) e h = refl
-flag_as w true other (pos (suc (suc n))) e h = let l = ltb-true (suc (suc n)) 2 h in absurd (omega arith)
-flag_as w true other (negsuc n) e h = cc
-flag_as w false other v e h = cc
+-- a flag is put as its lowest bit
+pub flag_as : (b : Bool) (mode : Mode) (cl : ℕ) (v : ℤ) → b ≡ true → lawful_as b v ≡ true → bit 0 (unsigned_abs v) ∷ [] ≡ code_as b mode cl v
+flag_as true mode cl (pos zero) e h = refl
+flag_as true mode cl (pos (suc zero)) e h = refl
+flag_as true mode cl (pos (suc (suc n))) e h = let l = ltb-true (suc (suc n)) 2 h in absurd (omega arith)
+flag_as true mode cl (negsuc n) e h = cc
+flag_as false mode cl v e h = cc
+
+-- a value of a form by whether it is a flag
+pub lawful_by : (b : Bool) (mode : Mode) (v : ℤ) → form_lawful (cond b Flag (Integer mode)) v ≡ true → lawful_as b v ≡ true
+lawful_by true mode v h = h
+lawful_by false mode v h = h
+
+pub code_by : (w : AgreedConfiguration) (b : Bool) (mode : Mode) (v : ℤ) → code_as b mode (length_for w mode) v ≡ form_code w (cond b Flag (Integer mode)) v
+code_by w true mode v = refl
+code_by w false mode v = refl
 
 -- a flag's code is its lowest bit
 pub flag_code : (w : AgreedConfiguration) (e : Entry) (i : ℕ) (v : ℤ) → is_flag e.flags i ≡ true → value_lawful e i v ≡ true → bit 0 (unsigned_abs v) ∷ [] ≡ value_code w e i v
-flag_code w e i v is h = flag_as w (is_flag e.flags i) (Integer (mode_of e.mode)) v is h
+flag_code w e i v is h =
+    flag_as (is_flag e.flags i) (mode_of e.mode) (length_for w (mode_of e.mode)) v is (lawful_by (is_flag e.flags i) (mode_of e.mode) v h)
+    ∙ code_by w (is_flag e.flags i) (mode_of e.mode) v
 
 -- the code of any other value is that of an integer in the mode of the row
 pub plain_code : (w : AgreedConfiguration) (e : Entry) (i : ℕ) (v : ℤ) (mode : Mode) (cl : ℕ) → is_flag e.flags i ≡ false → mode ≡ mode_of e.mode → cl ≡ length_for w mode
@@ -98,13 +108,14 @@ pub row_small : (e : Entry) (n : ℕ) → e ≡ row_of n → e.value_count ≤ 8
 row_small e n is = rw is (few_values n)
 
 -- what is known of a lawful command by its row
-pub rowed : (w : AgreedConfiguration) (r : Command) (e : Entry) → lawful (path_commands w) r ≡ true → e ≡ row_of r.number → Rowed r e
-rowed w r e h is =
-    let s = sound w r h in
+pub rowed_by : (r : Command) (e : Entry) → length r.values ≡ 8 → only_used (value_lawful (row_of r.number)) is_zero (row_of r.number).value_count 0 r.values ≡ true → e ≡ row_of r.number → Rowed r e
+rowed_by r e eight lawful is =
     let few = row_small e r.number is in
-    let eight = s.eight in
-    let used : only_used (value_lawful e) is_zero e.value_count 0 r.values ≡ true = rw is s.used in
+    let used : only_used (value_lawful e) is_zero e.value_count 0 r.values ≡ true = rw is lawful in
     record { enough = omega arith; values = λ i l. value_at (value_lawful e) is_zero e.value_count r.values i (pos 0) used (omega arith) l }
+
+pub rowed : (w : AgreedConfiguration) (r : Command) (e : Entry) → lawful (path_commands w) r ≡ true → e ≡ row_of r.number → Rowed r e
+rowed w r e h is = let s = sound w r h in rowed_by r e s.eight s.used is
 
 -- one value more of eight
 pub filled_more : (taken : List ℤ) (a : ℤ) (i : ℕ) → length taken ≡ i → i < 8 → slice_set (taken ++ replicate (8 - i) (pos 0)) i a ≡ (taken ++ a ∷ []) ++ replicate (8 - (i + 1)) (pos 0)

@@ -1,5 +1,5 @@
 -- The values of a command in use, as a loop measures and writes them.
-use Rattle.std.proofs.Common.{◌≡◌, ℕ, ◌+◌, ◌<◌, ◌≤◌, Bool, true, List, [], ◌∷◌, ◌++◌, length, get_or, take, drop, pos, sym, ap, ◌∙◌, add-one, arith, length-append, get_or-take, length-take-le, zero, suc, cond, nat_lt}
+use Rattle.std.proofs.Common.{◌≡◌, ℕ, ◌+◌, ◌<◌, ◌≤◌, Bool, true, List, [], ◌∷◌, ◌++◌, length, get_or, take, drop, ℤ, pos, sym, ap, ◌∙◌, add-one, arith, length-append, get_or-take, length-take-le, zero, suc, cond, nat_lt}
 use Rattle.std.proofs.lemmas.List.{drop_more, drop_all}
 use Rattle.std.proofs.lemmas.Bool.{and_parts, lt-ltb}
 use Rattle.bits.specs.Stores.{Content, appended}
@@ -12,7 +12,7 @@ use Rattle.items.specs.Kinds.{lawful}
 use Rattle.items.specs.Sequences.{in_order, only_used, is_zero}
 use Rattle.availability.specs.Available.{row_of, before, word_count}
 use Rattle.path_items.specs.declared.agreed.AgreedConfiguration.{AgreedConfiguration}
-use Rattle.path_items.specs.Paths.{available_in, value_lawful, value_code, word_for, command_code, path_commands}
+use Rattle.path_items.specs.Paths.{available_in, value_lawful, value_code, command_code, path_commands}
 use Rattle.path_items.specs.CommandLaws.{sound}
 
 -- the code of the values from the index i on begins with that of the value at i, and past the last nothing is left of it
@@ -47,13 +47,18 @@ used_lawful w r e h is i l =
     let used : only_used (value_lawful e) is_zero e.value_count 0 r.values ≡ true = rw is s.used in
     rw (get_or-take e.value_count r.values i (pos 0) (omega arith)) (used_at (value_lawful e) is_zero e.value_count 0 r.values used i i (pos 0) (omega arith) (omega arith) (omega arith))
 
--- the two parts of a command's code, and their lengths
+-- the two parts of a command's code, however a value is coded
+pub parts_by : (code : Entry → ℕ → ℤ → List Bool) (vs : List ℤ) (count most i place : ℕ) (e row : Entry) → count ≡ most → i ≡ place → e ≡ row
+    → word count i ++ in_order (code e) 0 (take e.value_count vs) ≡ word most place ++ in_order (code row) 0 (take row.value_count vs)
+parts_by code vs count most i place e row p q is =
+    ap (λ k. word k i ++ in_order (code e) 0 (take e.value_count vs)) p
+    ∙ ap (λ k. word most k ++ in_order (code e) 0 (take e.value_count vs)) q
+    ∙ ap (λ x. word most place ++ in_order (code x) 0 (take x.value_count vs)) is
+
+-- those of a command's code, and their lengths
 module _ (w : AgreedConfiguration) (r : Command) (e : Entry) (count i : ℕ) (p : count ≡ word_count w.configuration.fields) (q : i ≡ before (available_in w) r.number) (is : e ≡ row_of r.number) where
   pub code_parts : word count i ++ in_order (value_code w e) 0 (take e.value_count r.values) ≡ command_code w r
-  code_parts =
-      ap (λ k. word k i ++ in_order (value_code w e) 0 (take e.value_count r.values)) p
-      ∙ ap (λ k. word (word_count w.configuration.fields) k ++ in_order (value_code w e) 0 (take e.value_count r.values)) q
-      ∙ ap (λ x. word_for w r.number ++ in_order (value_code w x) 0 (take x.value_count r.values)) is
+  code_parts = parts_by (value_code w) r.values count (word_count w.configuration.fields) i (before (available_in w) r.number) e (row_of r.number) p q is
 
   -- what is due of it once the word is put
   pub word_put : (s t : Content) → t ≡ appended s (word count i) → Due s (command_code w r) t (in_order (value_code w e) 0 (take e.value_count r.values))

@@ -57,11 +57,16 @@ command_is n taken vs i l few e =
     ap (λ ws. record { number = n; values = ws })
     (e ∙ ap (λ k. taken ++ replicate (8 - k) (pos 0)) (sym l) ∙ sym (filled_up_lem (pos 0) 8 8 taken (omega arith) (omega arith)))
 
--- a number that is not DONE's
+-- a number that is not DONE's, however a value is read
+pub numbered_by : (value : Entry → ℕ → ℕ → List Bool → Parse ListFault ℤ) (n at : ℕ) (bits : List Bool) (e : Entry) → (n ≢ 25) → e ≡ row_of n
+    → cond (n == 25) (got None bits) (mapped (λ vs. Some (command n vs)) (in_turn (value (row_of n)) 0 (row_of n).value_count at bits))
+    ≡ mapped (λ vs. Some (command n vs)) (in_turn (value e) 0 e.value_count at bits)
+numbered_by value n at bits e ne is =
+    rw (ne_eqb n 25 ne) (ap (λ r. mapped (λ vs. Some (command n vs)) (in_turn (value r) 0 r.value_count at bits)) (sym is))
+
 pub numbered_as : (w : AgreedConfiguration) (n at : ℕ) (bits : List Bool) (e : Entry) → (n ≢ 25) → e ≡ row_of n
     → one_numbered w n at bits ≡ mapped (λ vs. Some (command n vs)) (in_turn (one_value w e) 0 e.value_count at bits)
-numbered_as w n at bits e ne is =
-    rw (ne_eqb n 25 ne) (ap (λ r. mapped (λ vs. Some (command n vs)) (in_turn (one_value w r) 0 r.value_count at bits)) (sym is))
+numbered_as w = numbered_by (one_value w)
 
 -- values in use, filled up to eight
 filled_used : (e : Entry) (vs : List ℤ) → e.value_count ≤ 8 → length vs ≡ e.value_count → Each (λ i v. value_lawful e i v ≡ true) 0 vs
